@@ -1,0 +1,4 @@
+pub mod Distances
+pub mod Nearest
+pub mod Sums
+pub mod Whole

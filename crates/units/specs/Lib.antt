@@ -1,0 +1,5 @@
+pub mod Faults
+pub mod Near
+pub mod Ranges
+pub mod Rounding
+pub mod Sums
