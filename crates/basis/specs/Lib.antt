@@ -1,0 +1,4 @@
+pub mod Columns
+pub mod LifeTables
+pub mod Shifts
+pub mod Transitions
