@@ -1,0 +1,2 @@
+pub mod Endowments
+pub mod Payments
