@@ -8,7 +8,7 @@ pub mod endowment;
 pub trait Plan {
     ghost payments: { Self → Payments };
 
-    law in_range: { (s : Self) → InRange (payments s) };
+    law bounded: { (s : Self) → InRange (payments s) };
 
     // What is paid in a state at the start of a year.
     fn benefit(&self, state: usize, year: usize) -> u64

@@ -2,8 +2,8 @@ use native.Mathlib.Omega.{arith}
 use Rattle.std.proofs.shelf.Ways.{tells}
 use Rattle.plan.proofs.endowment.plan.EndowmentPlan.the-impl.Needs as need
 
-pub in-range-law : need.in-range-law
-in-range-law s = let sum = s .amount in let term = s .few in let paying = s .paying in record {
+pub bounded-law : need.bounded-law
+bounded-law s = let sum = s .amount in let term = s .few in let paying = s .paying in record {
   most-benefit = λ i t. grind (arith, tells);
   most-move-benefit = λ i j t. grind (arith, tells);
   no-benefit-after = λ i t k. grind (arith, tells);

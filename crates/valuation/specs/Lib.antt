@@ -1,0 +1,4 @@
+pub mod Figures
+pub mod Means
+pub mod Operations
+pub mod Reserves
