@@ -1,3 +1,4 @@
+pub mod FaultTexts
 pub mod Faults
 pub mod Near
 pub mod Ranges

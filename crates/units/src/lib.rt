@@ -1,5 +1,7 @@
 // What all other crates count in: ticks, parts of a million, premiums, and the fault that every refusal is.
+pub mod failure;
 pub mod fault;
+pub mod fault_text;
 pub mod premium;
 pub mod rounding;
 

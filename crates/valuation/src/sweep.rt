@@ -13,7 +13,13 @@ use plan::Plan;
 use units::premium::Premium;
 
 // What is paid in a state at the start of a year, less the premium where it is due.
-fn flow_of<B: Basis, P: Plan>(basis: &B, plan: &P, premium: Premium, state: usize, year: usize) -> i64
+fn flow_of<B: Basis, P: Plan>(
+    basis: &B,
+    plan: &P,
+    premium: Premium,
+    state: usize,
+    year: usize,
+) -> i64
     ensures { λ r. ⌜ r ≡ flow (B·Basis .meaning (now (basis .entry))) (P·Plan .payments (now (plan .entry))) (premium .ticks) state year ⌝ }
 {
     let benefit = plan.benefit(state, year) as i64;
@@ -34,7 +40,14 @@ fn fill_row<B: Basis>(basis: &B, state: usize, year: usize, row: &mut [u32])
 }
 
 // What follows each move out of a state in a year, where `after` has the figures of the next year.
-fn fill_following<V: Valuation, P: Plan>(valuation: &V, plan: &P, state: usize, year: usize, after: &[V::Figure], following: &mut [V::Figure])
+fn fill_following<V: Valuation, P: Plan>(
+    valuation: &V,
+    plan: &P,
+    state: usize,
+    year: usize,
+    after: &[V::Figure],
+    following: &mut [V::Figure],
+)
     requires { ⌜ length (now after) ≡ length (now following) ⌝ }
     ensures { λ _. ⌜ ((next : ℕ → V·Figure) → now (after .entry) ≡ map next (counting 0 (length (now (after .entry)))) → now (following .exit) ≡ map (λ j. V·Valuation .operations (now (valuation .entry)) .add (next j) (pos (P·Plan .payments (now (plan .entry)) .move-benefit state j year))) (counting 0 (length (now (after .entry))))) ⌝ }
 {
@@ -45,7 +58,15 @@ fn fill_following<V: Valuation, P: Plan>(valuation: &V, plan: &P, state: usize, 
 
 // The join of what follows a state in a year, discounted and as it is, where `after` has the figures of the next year.
 // `following` is written over.
-pub(crate) fn ahead<V: Valuation, B: Basis, P: Plan>(valuation: &V, basis: &B, plan: &P, state: usize, year: usize, after: &[V::Figure], following: &mut [V::Figure]) -> (V::Figure, V::Figure)
+pub(crate) fn ahead<V: Valuation, B: Basis, P: Plan>(
+    valuation: &V,
+    basis: &B,
+    plan: &P,
+    state: usize,
+    year: usize,
+    after: &[V::Figure],
+    following: &mut [V::Figure],
+) -> (V::Figure, V::Figure)
     requires after { ⌜ length (now after) ≡ B·Basis .meaning (now basis) .states ⌝ }
     requires following { ⌜ length (now following) ≡ B·Basis .meaning (now basis) .states ⌝ }
     ensures discounted { λ r. ⌜ Given (B·Basis .meaning (now (basis .entry))) (now (after .entry)) (λ next. r .0 ≡ discounted (V·Valuation .operations (now (valuation .entry))) (B·Basis .meaning (now (basis .entry))) (P·Plan .payments (now (plan .entry))) state year next) ⌝ }
@@ -60,7 +81,16 @@ pub(crate) fn ahead<V: Valuation, B: Basis, P: Plan>(valuation: &V, basis: &B, p
 }
 
 // The figure of a state in a year, where `after` has the figures of the next year. `following` is written over.
-pub(crate) fn one_state<V: Valuation, B: Basis, P: Plan>(valuation: &V, basis: &B, plan: &P, premium: Premium, state: usize, year: usize, after: &[V::Figure], following: &mut [V::Figure]) -> V::Figure
+pub(crate) fn one_state<V: Valuation, B: Basis, P: Plan>(
+    valuation: &V,
+    basis: &B,
+    plan: &P,
+    premium: Premium,
+    state: usize,
+    year: usize,
+    after: &[V::Figure],
+    following: &mut [V::Figure],
+) -> V::Figure
     requires after { ⌜ length (now after) ≡ B·Basis .meaning (now basis) .states ⌝ }
     requires following { ⌜ length (now following) ≡ B·Basis .meaning (now basis) .states ⌝ }
     ensures { λ r. ⌜ Given (B·Basis .meaning (now (basis .entry))) (now (after .entry)) (λ next. r ≡ figure-before (V·Valuation .operations (now (valuation .entry))) (B·Basis .meaning (now (basis .entry))) (P·Plan .payments (now (plan .entry))) (premium .ticks) state year next) ⌝ }
@@ -70,19 +100,44 @@ pub(crate) fn one_state<V: Valuation, B: Basis, P: Plan>(valuation: &V, basis: &
 }
 
 // The figures of all states in a year, where `after` has those of the next year. `following` is written over.
-fn one_year<V: Valuation, B: Basis, P: Plan>(valuation: &V, basis: &B, plan: &P, premium: Premium, year: usize, after: &[V::Figure], following: &mut [V::Figure], figures: &mut [V::Figure])
+fn one_year<V: Valuation, B: Basis, P: Plan>(
+    valuation: &V,
+    basis: &B,
+    plan: &P,
+    premium: Premium,
+    year: usize,
+    after: &[V::Figure],
+    following: &mut [V::Figure],
+    figures: &mut [V::Figure],
+)
     requires after { ⌜ length (now after) ≡ B·Basis .meaning (now basis) .states ⌝ }
     requires following { ⌜ length (now following) ≡ B·Basis .meaning (now basis) .states ⌝ }
     requires figures { ⌜ length (now figures) ≡ B·Basis .meaning (now basis) .states ⌝ }
     ensures { λ _. ⌜ Given (B·Basis .meaning (now (basis .entry))) (now (after .entry)) (λ next. now (figures .exit) ≡ map (λ i. figure-before (V·Valuation .operations (now (valuation .entry))) (B·Basis .meaning (now (basis .entry))) (P·Plan .payments (now (plan .entry))) (premium .ticks) i year next) (moves (B·Basis .meaning (now (basis .entry))))) ⌝ }
 {
     for state in 0..figures.len() {
-        figures[state] = one_state(valuation, basis, plan, premium, state, year, after, following);
+        figures[state] = one_state(
+            valuation,
+            basis,
+            plan,
+            premium,
+            state,
+            year,
+            after,
+            following,
+        );
     }
 }
 
 // The figures of all states in a year after which none is left.
-fn last_year<V: Valuation, B: Basis, P: Plan>(valuation: &V, basis: &B, plan: &P, premium: Premium, year: usize, figures: &mut [V::Figure])
+fn last_year<V: Valuation, B: Basis, P: Plan>(
+    valuation: &V,
+    basis: &B,
+    plan: &P,
+    premium: Premium,
+    year: usize,
+    figures: &mut [V::Figure],
+)
     requires { ⌜ length (now figures) ≡ B·Basis .meaning (now basis) .states ⌝ }
     ensures { λ _. ⌜ now (figures .exit) ≡ map (λ i. V·Valuation .operations (now (valuation .entry)) .make (flow (B·Basis .meaning (now (basis .entry))) (P·Plan .payments (now (plan .entry))) (premium .ticks) i year)) (moves (B·Basis .meaning (now (basis .entry)))) ⌝ }
 {
@@ -92,7 +147,16 @@ fn last_year<V: Valuation, B: Basis, P: Plan>(valuation: &V, basis: &B, plan: &P
 }
 
 // The figures of all states in a year, backwards from the last year of the basis. `after` and `following` are written over.
-pub(crate) fn sweep<V: Valuation, B: Basis, P: Plan>(valuation: &V, basis: &B, plan: &P, premium: Premium, year: usize, after: &mut [V::Figure], following: &mut [V::Figure], figures: &mut [V::Figure])
+pub(crate) fn sweep<V: Valuation, B: Basis, P: Plan>(
+    valuation: &V,
+    basis: &B,
+    plan: &P,
+    premium: Premium,
+    year: usize,
+    after: &mut [V::Figure],
+    following: &mut [V::Figure],
+    figures: &mut [V::Figure],
+)
     requires year { ⌜ year ≤ B·Basis .meaning (now basis) .years ⌝ }
     requires after { ⌜ length (now after) ≡ B·Basis .meaning (now basis) .states ⌝ }
     requires following { ⌜ length (now following) ≡ B·Basis .meaning (now basis) .states ⌝ }
@@ -103,12 +167,31 @@ pub(crate) fn sweep<V: Valuation, B: Basis, P: Plan>(valuation: &V, basis: &B, p
     last_year(valuation, basis, plan, premium, years, figures);
     for earlier in (year..years).rev() {
         after.copy_from_slice(figures);
-        one_year(valuation, basis, plan, premium, earlier, after, following, figures);
+        one_year(
+            valuation,
+            basis,
+            plan,
+            premium,
+            earlier,
+            after,
+            following,
+            figures,
+        );
     }
 }
 
 // The figure of any state in any year. The three slices are written over.
-pub(crate) fn figure_at<V: Valuation, B: Basis, P: Plan>(valuation: &V, basis: &B, plan: &P, premium: Premium, state: usize, year: usize, after: &mut [V::Figure], following: &mut [V::Figure], figures: &mut [V::Figure]) -> V::Figure
+pub(crate) fn figure_at<V: Valuation, B: Basis, P: Plan>(
+    valuation: &V,
+    basis: &B,
+    plan: &P,
+    premium: Premium,
+    state: usize,
+    year: usize,
+    after: &mut [V::Figure],
+    following: &mut [V::Figure],
+    figures: &mut [V::Figure],
+) -> V::Figure
     requires after { ⌜ length (now after) ≡ B·Basis .meaning (now basis) .states ⌝ }
     requires following { ⌜ length (now following) ≡ B·Basis .meaning (now basis) .states ⌝ }
     requires figures { ⌜ length (now figures) ≡ B·Basis .meaning (now basis) .states ⌝ }
@@ -117,6 +200,24 @@ pub(crate) fn figure_at<V: Valuation, B: Basis, P: Plan>(valuation: &V, basis: &
     if year >= basis.years() {
         return valuation.make(flow_of(basis, plan, premium, state, year));
     }
-    sweep(valuation, basis, plan, premium, year + 1, after, following, figures);
-    one_state(valuation, basis, plan, premium, state, year, figures, following)
+    sweep(
+        valuation,
+        basis,
+        plan,
+        premium,
+        year + 1,
+        after,
+        following,
+        figures,
+    );
+    one_state(
+        valuation,
+        basis,
+        plan,
+        premium,
+        state,
+        year,
+        figures,
+        following,
+    )
 }

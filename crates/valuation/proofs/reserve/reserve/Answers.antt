@@ -16,7 +16,7 @@ returns g c =
     let range = g .P·Plan·met .bounded (c .args .plan .now) in
     let fits : SFits w64 (c .figure-at .result) = search needs in
     let value : toZ w64 (ofZ w64 (c .figure-at .result)) ≡ reserve basis plan (c .args .premium .ticks) (c .args .state) (c .args .year) =
-      toZ-ofZ w64 _ fits ∙ c .figure-at .ensures ∙ figure-is basis law plan range (c .args .premium .ticks) (c .args .premium .range) (c .args .state) (c .args .year) in
+    toZ-ofZ w64 _ fits ∙ c .figure-at .ensures ∙ figure-is basis law plan range (c .args .premium .ticks) (c .args .premium .range) (c .args .state) (c .args .year) in
     record {
       value = value;
       range = subst (Within 5000000000000) (sym value) (reserve-bound basis law plan range (c .args .premium .ticks) (c .args .premium .range) (c .args .state) (c .args .year));

@@ -1,0 +1,2 @@
+pub mod Francs
+pub mod SwissMen
