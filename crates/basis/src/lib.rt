@@ -5,6 +5,8 @@ ghost use Rattle.basis.specs.Transitions.{Transitions, Lawful};
 mod columns;
 pub mod life;
 pub mod shift;
+#[cfg(test)]
+mod tests;
 
 // What every basis answers. Shares and factors are parts of a million; none of the calls refuses or changes anything.
 pub trait Basis {

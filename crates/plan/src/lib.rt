@@ -3,6 +3,8 @@ ghost use mathlib.Core.Path.{_≡_};
 ghost use Rattle.plan.specs.Payments.{Payments, InRange};
 
 pub mod endowment;
+#[cfg(test)]
+mod tests;
 
 // What every plan answers, in ticks. None of the calls refuses or changes anything.
 pub trait Plan {

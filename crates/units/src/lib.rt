@@ -4,6 +4,8 @@ pub mod fault;
 pub mod fault_text;
 pub mod premium;
 pub mod rounding;
+#[cfg(test)]
+mod tests;
 
 // Parts of a million: what a whole share, and a discount factor of one, come to.
 pub const MILLION: u32 = 1_000_000;

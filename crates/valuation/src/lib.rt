@@ -5,6 +5,8 @@ ghost use Rattle.valuation.specs.Operations.{Operations, Ordered};
 pub mod mean;
 pub mod reserve;
 mod sweep;
+#[cfg(test)]
+mod tests;
 
 // How the sweep reckons with figures of one kind. None of the calls refuses or changes anything,
 // and each keeps order in the amount and in every figure that it is given, on one row and one factor.

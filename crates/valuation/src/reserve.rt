@@ -1,5 +1,6 @@
 // The reserve of any basis and plan.
 ghost use mathlib.Core.Path.{_≡_};
+ghost use lib.ListN.{length};
 ghost use Rattle.units.specs.Near.{Within};
 ghost use Rattle.valuation.specs.Reserves.{reserve};
 use crate::mean::Mean;
@@ -9,8 +10,38 @@ use basis::Basis;
 use plan::Plan;
 use units::premium::Premium;
 
-// The reserve in a state and a year, at a premium. Past the last year it is what is paid then;
-// in a state that the basis does not have, too, since nobody moves out of it.
+// The reserve in a state and a year. The three slices are written over.
+fn reserve_over<B: Basis, P: Plan>(
+    basis: &B,
+    plan: &P,
+    premium: Premium,
+    state: usize,
+    year: usize,
+    after: &mut [i64],
+    following: &mut [i64],
+    figures: &mut [i64],
+) -> i64
+    requires after { ⌜ length (now after) ≡ B·Basis .meaning (now basis) .states ⌝ }
+    requires following { ⌜ length (now following) ≡ B·Basis .meaning (now basis) .states ⌝ }
+    requires figures { ⌜ length (now figures) ≡ B·Basis .meaning (now basis) .states ⌝ }
+    ensures value { λ r. ⌜ r ≡ reserve (B·Basis .meaning (now (basis .entry))) (P·Plan .payments (now (plan .entry))) (premium .ticks) state year ⌝ }
+    ensures range { λ r. ⌜ Within 5000000000000 r ⌝ }
+{
+    figure_at(
+        &Mean {},
+        basis,
+        plan,
+        premium,
+        state,
+        year,
+        after,
+        following,
+        figures,
+    )
+}
+
+// The reserve in a state and a year, at a premium. Past the last year, and in a state that the basis does not have,
+// nothing follows: it is the benefit there, less a premium that is due.
 pub fn reserve<B: Basis, P: Plan>(
     basis: &B,
     plan: &P,
@@ -25,8 +56,7 @@ pub fn reserve<B: Basis, P: Plan>(
     let mut after = [0i64; 8];
     let mut following = [0i64; 8];
     let mut figures = [0i64; 8];
-    figure_at(
-        &Mean {},
+    reserve_over(
         basis,
         plan,
         premium,

@@ -39,6 +39,21 @@ fn fill_row<B: Basis>(basis: &B, state: usize, year: usize, row: &mut [u32])
     }
 }
 
+// What follows a move: its benefit, and the figure of the state that it leads to, which `after` has for every state.
+fn follow<V: Valuation, P: Plan>(
+    valuation: &V,
+    plan: &P,
+    from: usize,
+    to: usize,
+    year: usize,
+    after: &[V::Figure],
+) -> V::Figure
+    requires { ⌜ to < length (now after) ⌝ }
+    ensures { λ r. ⌜ ((next : ℕ → V·Figure) → now (after .entry) ≡ map next (counting 0 (length (now (after .entry)))) → r ≡ V·Valuation .operations (now (valuation .entry)) .add (next to) (pos (P·Plan .payments (now (plan .entry)) .move-benefit from to year))) ⌝ }
+{
+    valuation.add(after[to], plan.move_benefit(from, to, year) as i64)
+}
+
 // What follows each move out of a state in a year, where `after` has the figures of the next year.
 fn fill_following<V: Valuation, P: Plan>(
     valuation: &V,
@@ -52,7 +67,7 @@ fn fill_following<V: Valuation, P: Plan>(
     ensures { λ _. ⌜ ((next : ℕ → V·Figure) → now (after .entry) ≡ map next (counting 0 (length (now (after .entry)))) → now (following .exit) ≡ map (λ j. V·Valuation .operations (now (valuation .entry)) .add (next j) (pos (P·Plan .payments (now (plan .entry)) .move-benefit state j year))) (counting 0 (length (now (after .entry))))) ⌝ }
 {
     for to in 0..after.len() {
-        following[to] = valuation.add(after[to], plan.move_benefit(state, to, year) as i64);
+        following[to] = follow(valuation, plan, state, to, year, after);
     }
 }
 

@@ -1,30 +1,9 @@
-use mathlib.Core.Path.{_≡_, sym, ap, _∙_}
 use native.Mathlib.Omega.{arith}
-use borrow.Author.Needs.{needs}
-use lib.IntN.{pos}
-use lib.ListN.{getD}
-use mir.Syntax.{w64}
-use mir.Val.{toZ}
-use Rattle.std.proofs.shelf.Counted.{getD-map-counting}
-use Rattle.std.proofs.shelf.Signed.{toZ-pos}
 use Rattle.valuation.proofs.Loops.{counted-more, counted-all}
 use Rattle.valuation.proofs.sweep.fill_following.Needs as need
 
-pub cast-move-benefit : need.cast-move-benefit
-cast-move-benefit g c = let most = g .P·Plan·met .bounded (c .args .plan .now) .most-move-benefit (c .args .state) (c .loop-to .to) (c .args .year) in search needs
-
 pub loop-to-again : need.loop-to-again
-loop-to-again g c = λ next is.
-    let v = g .V·Valuation .operations (c .args .valuation .now) in
-    let p = g .P·Plan .payments (c .args .plan .now) in
-    let x = c .index-after-to .result in
-    let told = c .move-benefit .ensures in
-    let most = g .P·Plan·met .bounded (c .args .plan .now) .most-move-benefit (c .args .state) (c .loop-to .to) (c .args .year) in
-    let read : x ≡ next (c .loop-to .to) = c .index-after-to .is ∙ ap (λ ys. getD ys (c .loop-to .to) x) is ∙ getD-map-counting next 0 _ (c .loop-to .to) (c .loop-to .to) x (omega arith) (omega arith) in
-    let cast : toZ w64 (c .move-benefit .result) ≡ pos (p .move-benefit (c .args .state) (c .loop-to .to) (c .args .year)) = toZ-pos w64 _ (omega arith) ∙ ap pos told in
-    counted-more _ (c .loop-to .following) (c .loop-to .to) (c .add .result) (omega arith)
-    (c .add .ensures ∙ ap (v .add x) cast ∙ ap (λ y. v .add y (pos (p .move-benefit (c .args .state) (c .loop-to .to) (c .args .year)))) read)
-    (c .loop-to .inv next is)
+loop-to-again g c = λ next is. counted-more _ (c .loop-to .following) (c .loop-to .to) (c .follow .result) (omega arith) (c .follow .ensures next is) (c .loop-to .inv next is)
 
 pub returns : need.returns
 returns g c = λ next is. counted-all _ (c .loop-to .following) (c .loop-to .to) _ (omega arith) (omega arith) (c .loop-to .inv next is)

@@ -6,7 +6,7 @@ use Rattle.std.proofs.shelf.Signed.{toZ-ofZ}
 use Rattle.units.specs.Near.{Within}
 use Rattle.valuation.specs.Reserves.{reserve}
 use Rattle.valuation.proofs.Agreement.{figure-is, reserve-bound}
-use Rattle.valuation.proofs.reserve.reserve.Needs as need
+use Rattle.valuation.proofs.reserve.reserve_over.Needs as need
 
 pub returns : need.returns
 returns g c =
