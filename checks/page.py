@@ -49,20 +49,21 @@ def column(name, key, kind):
 def main():
     deaths = column("swiss-insured-men-1995.csv", "death_share_per_million", int)
     figures = "swiss-insured-men-1995-commutation-2.5-percent.csv"
-    d, m = column(figures, "D", Fraction), column(figures, "M", Fraction)
-    n = column(figures, "N", Fraction)
+    d, c, m = (column(figures, key, Fraction) for key in "DCM")
 
     print("Net single premium of an endowment of 1000 francs")
     print("Swiss insured men 1995, 2.5 per cent")
     print()
     print("age" + "".join(f"{f'{k} years':>10}" for k in TERMS))
-    worst = 0
+    worst = {"C": 0, "M": 0}
     for x in AGES:
         row = [reserve(deaths, x, 10_000_000, k, 0, 0, 0) for k in TERMS]
         print(f"{x:>3}" + "".join(f"{francs(v):>10}" for v in row))
         for k, v in zip(TERMS, row):
-            outside = 1000 * (m[x] - m[x + k] + d[x + k]) / d[x]
-            worst = max(worst, abs(outside - Fraction(v, 10_000)))
+            deaths_paid = {"C": sum(c[x : x + k]), "M": m[x] - m[x + k]}
+            for key, paid in deaths_paid.items():
+                outside = 1000 * (paid + d[x + k]) / d[x]
+                worst[key] = max(worst[key], abs(outside - Fraction(v, 10_000)))
     print()
     print("Reserve of a man of 50, endowment of 50000 francs over 5 years")
     print("yearly premium of 9375.22 francs")
@@ -71,8 +72,9 @@ def main():
     for t in range(6):
         print(f"{t:>4}{francs(reserve(deaths, 50, 500_000_000, 5, 5, 93_752_200, t)):>12}")
 
-    yearly = 50_000 * (m[50] - m[55] + d[55]) / (n[50] - n[55])
-    print(f"largest difference from the commutation figures: {float(worst):.4f} francs", file=sys.stderr)
+    yearly = 50_000 * (sum(c[50:55]) + d[55]) / sum(d[50:55])
+    for key, most in worst.items():
+        print(f"largest difference, with payments at death from {key}: {float(most):.4f} francs", file=sys.stderr)
     print(f"net yearly premium by the commutation figures: {float(yearly):.4f} francs", file=sys.stderr)
 
 

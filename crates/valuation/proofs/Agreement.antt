@@ -3,33 +3,24 @@ use mathlib.Core.Path.{_≡_, refl, sym, ap, subst, _∙_}
 use mathlib.Core.List.{List, [], _∷_, map}
 use mathlib.Core.Logic.{⊎-elim}
 use Prim.Native.Nat.{ℕ, zero, suc, _+_, _-_, _*_, _≤_, _<_}
-use native.Mathlib.Nat.{add-mul, mul-le-mul-right}
+use native.Mathlib.Nat.{mul-le-mul-right}
 use native.Mathlib.Omega.{arith}
-use lib.IntN.{ℤ, pos, negsuc, _+ℤ_, _*ℤ_}
+use lib.IntN.{ℤ, pos, _+ℤ_, _*ℤ_}
 use borrow.Author.Differences.{ints}
-use Rattle.std.specs.Iters.{counting}
 use Rattle.std.specs.Numbers.{saturated}
-use Rattle.std.specs.shelf.Lists.{sumBy}
-use Rattle.std.proofs.shelf.Sums.{sumBy-cons}
+use Rattle.std.specs.shelf.Lists.{All}
+use Rattle.std.proofs.shelf.Sums.{sum-map}
 use Rattle.std.proofs.shelf.Ways.{leb-tells}
 use Rattle.units.specs.Near.{Within}
 use Rattle.units.specs.Ranges.{million, limit}
-use Rattle.units.specs.Sums.{sumZ}
 use Rattle.units.proofs.Distances.{within-pos, within-more, within-add, within-times}
 use Rattle.basis.specs.Transitions.{Transitions, Lawful, moves}
 use Rattle.plan.specs.Payments.{Payments, InRange}
 use Rattle.valuation.specs.Figures.{flow, joined, discounted, figure-before, figure-with, figure}
-use Rattle.valuation.specs.Means.{round-mean, round-discount, weighted, mean}
+use Rattle.valuation.specs.Means.{round-mean, round-discount, mean, LawfulFigure, LawfulRow, products}
 use Rattle.valuation.specs.Reserves.{expected, present, reserve-with, reserve}
+use Rattle.valuation.proofs.Sums.{unsaturated, weighted-is, products-map, all-map-every}
 use Rattle.valuation.proofs.Range.{reach, shares-most, expected-within, present-within, flow-within, reserve-within}
-
--- the largest figure whose products with shares and factors 64 bits hold with room to spare
-abbrev most : ℕ
-most = 5000000000000
-
-pub unsaturated : (z : ℤ) → Within 9000000000000000000 z → saturated 63 z ≡ z
-unsaturated (pos n) h = let k : n ≤ 9000000000000000000 = omega (arith, ints, h .low) in ap pos (omega arith)
-unsaturated (negsuc n) h = let k : n ≤ 9000000000000000000 = omega (arith, ints, h .high) in ap negsuc (omega arith)
 
 map-same : {X Y : Type 0} (f g : X → Y) (xs : List X) → ((x : X) → f x ≡ g x) → map f xs ≡ map g xs
 map-same f g [] same = refl
@@ -38,49 +29,44 @@ map-same f g (x ∷ xs) same = let e = same x in let r = map-same f g xs same in
 turned : (a b : ℤ) → a +ℤ b ≡ b +ℤ a
 turned a b = omega (arith, ints)
 
-grouped : (a b c : ℤ) → (a +ℤ b) +ℤ c ≡ a +ℤ (b +ℤ c)
-grouped a b c = omega (arith, ints)
-
 nought-and : (a : ℤ) → pos 0 +ℤ a ≡ a
 nought-and a = omega (arith, ints)
 
--- on a row that is no more than a whole, nothing saturates; `before` is what the row has had so far
-module _ (share : ℕ → ℕ) (f : ℕ → ℤ) (each : (j : ℕ) → Within most (f j)) where
-  weighted-is : (a n before : ℕ) (sum : ℤ) → before + sumBy share (counting a n) ≤ million → Within (before * most) sum → weighted sum (map share (counting a n)) (map f (counting a n)) ≡ sum +ℤ sumZ (λ j. pos (share j) *ℤ f j) (counting a n)
-  weighted-is a zero before sum whole small = omega (arith, ints)
-  weighted-is a (suc n) before sum whole small =
-      let cons = sumBy-cons share a (counting (a + 1) n) in
-      let part : Within (share a * most) (pos (share a) *ℤ f a) = within-times (share a) (each a) in
-      let more : Within ((before + share a) * most) (sum +ℤ pos (share a) *ℤ f a) = subst (λ d. Within d (sum +ℤ pos (share a) *ℤ f a)) (sym (add-mul before (share a) most)) (within-add small part) in
-      let one : saturated 63 (pos (share a) *ℤ f a) ≡ pos (share a) *ℤ f a = unsaturated _ (within-more (omega arith) part) in
-      let both : saturated 63 (sum +ℤ pos (share a) *ℤ f a) ≡ sum +ℤ pos (share a) *ℤ f a = unsaturated _ (within-more (omega arith) more) in
-      ap (λ z. weighted (saturated 63 (sum +ℤ z)) (map share (counting (a + 1) n)) (map f (counting (a + 1) n))) one
-      ∙ ap (λ z. weighted z (map share (counting (a + 1) n)) (map f (counting (a + 1) n))) both
-      ∙ weighted-is (a + 1) n (before + share a) (sum +ℤ pos (share a) *ℤ f a) (omega arith) more
-      ∙ grouped sum (pos (share a) *ℤ f a) (sumZ (λ j. pos (share j) *ℤ f j) (counting (a + 1) n))
+-- the mean's own operations where every answer is fixed
+pub join-is : (row : List ℕ) (xs : List ℤ) (i : ℕ) → LawfulRow row → All LawfulFigure xs → mean .join i row xs ≡ round-mean (products row xs)
+join-is row xs i whole each = ap round-mean (weighted-is row xs 0 (pos 0) (omega arith) (within-pos _ 0 (omega arith)) each ∙ nought-and (products row xs))
+
+pub discount-is : (factor : ℕ) (x : ℤ) → factor ≤ million → LawfulFigure x → mean .discount factor x ≡ round-discount (pos factor *ℤ x)
+discount-is factor x low small =
+    let product : factor * 5000000000000 ≤ million * 5000000000000 = mul-le-mul-right 5000000000000 low in
+    ap round-discount (unsaturated _ (within-more (omega arith) (within-times factor small)))
+
+pub add-is : (x a : ℤ) → LawfulFigure x → LawfulFigure a → mean .add x a ≡ x +ℤ a
+add-is x a small more = unsaturated _ (within-more (omega arith) (within-add small more))
 
 module _ (c : Transitions) (law : Lawful c) (p : Payments) (range : InRange p) where
-  module _ (i t d : ℕ) (next : ℕ → ℤ) (early : t < c .years) (each : (j : ℕ) → Within d (next j)) (room : limit + d ≤ most) where
-    follows-within : (j : ℕ) → Within most (pos (p .move-benefit i j t) +ℤ next j)
+  module _ (i t d : ℕ) (next : ℕ → ℤ) (early : t < c .years) (each : (j : ℕ) → Within d (next j)) (room : limit + d ≤ 5000000000000) where
+    follows-within : (j : ℕ) → LawfulFigure (pos (p .move-benefit i j t) +ℤ next j)
     follows-within j = within-more room (within-add (within-pos limit (p .move-benefit i j t) (range .most-move-benefit i j t)) (each j))
 
-    follows-is : map (λ j. saturated 63 (next j +ℤ pos (p .move-benefit i j t))) (moves c) ≡ map (λ j. pos (p .move-benefit i j t) +ℤ next j) (moves c)
+    follows-is : map (λ j. mean .add (next j) (pos (p .move-benefit i j t))) (moves c) ≡ map (λ j. pos (p .move-benefit i j t) +ℤ next j) (moves c)
     follows-is =
-        map-same (λ j. saturated 63 (next j +ℤ pos (p .move-benefit i j t))) (λ j. pos (p .move-benefit i j t) +ℤ next j) (moves c)
+        map-same (λ j. mean .add (next j) (pos (p .move-benefit i j t))) (λ j. pos (p .move-benefit i j t) +ℤ next j) (moves c)
         (λ j. ap (saturated 63) (turned (next j) (pos (p .move-benefit i j t))) ∙ unsaturated _ (within-more (omega arith) (follows-within j)))
 
     pub joined-is : joined mean c p i t next ≡ expected c p i t next
     joined-is =
-        ap (λ ys. round-mean (weighted (pos 0) (map (λ j. c .share i j t) (moves c)) ys)) follows-is
-        ∙ ap round-mean (weighted-is (λ j. c .share i j t) (λ j. pos (p .move-benefit i j t) +ℤ next j) follows-within 0 (c .states) 0 (pos 0) (omega (arith, shares-most c law p range i t early)) (within-pos _ 0 (omega arith)))
-        ∙ ap round-mean (nought-and (sumZ (λ j. pos (c .share i j t) *ℤ (pos (p .move-benefit i j t) +ℤ next j)) (moves c)))
+        let share : ℕ → ℕ = λ j. c .share i j t in
+        let follows : ℕ → ℤ = λ j. pos (p .move-benefit i j t) +ℤ next j in
+        let whole : LawfulRow (map share (moves c)) = omega (arith, sum-map share (moves c), shares-most c law p range i t early) in
+        ap (λ ys. mean .join i (map share (moves c)) ys) follows-is
+        ∙ join-is (map share (moves c)) (map follows (moves c)) i whole (all-map-every LawfulFigure follows follows-within (moves c))
+        ∙ ap round-mean (products-map share follows (moves c))
 
     pub discounted-is : discounted mean c p i t next ≡ present c p i t next
     discounted-is =
-        let product = within-times (c .factor t) (expected-within c law p range i t d next early each) in
-        let small : c .factor t * (limit + d) ≤ million * (limit + d) = mul-le-mul-right (limit + d) (law .most-factor t) in
         ap (mean .discount (c .factor t)) joined-is
-        ∙ ap round-discount (unsaturated _ (within-more (omega arith) product))
+        ∙ discount-is (c .factor t) (expected c p i t next) (law .most-factor t) (within-more room (expected-within c law p range i t d next early each))
 
   module _ (premium : ℕ) (small : premium ≤ limit) where
     pub figure-with-is : (k i t : ℕ) → t + k ≤ c .years → figure-with mean c p premium k i t ≡ reserve-with c p premium k i t
@@ -106,10 +92,10 @@ module _ (c : Transitions) (law : Lawful c) (p : Payments) (range : InRange p) w
     pub figure-is : (i t : ℕ) → figure mean c p premium i t ≡ reserve c p premium i t
     figure-is i t = at-any-year (λ k u. figure-with mean c p premium k i u ≡ reserve-with c p premium k i u) (λ k u. figure-with-is k i u) (λ u. refl) t
 
-    pub reserve-bound : (i t : ℕ) → Within most (reserve c p premium i t)
+    pub reserve-bound : (i t : ℕ) → LawfulFigure (reserve c p premium i t)
     reserve-bound i t =
         let years = law .most-years in
-        at-any-year (λ k u. Within most (reserve-with c p premium k i u))
+        at-any-year (λ k u. LawfulFigure (reserve-with c p premium k i u))
         (λ k u l. within-more (omega arith) (reserve-within c law p range premium small k i u l))
         (λ u. within-more (omega arith) (flow-within c law p range premium small i u))
         t

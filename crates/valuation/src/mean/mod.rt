@@ -1,9 +1,12 @@
 // The mean: figures are ticks, and a join is the mean of what follows.
 ghost use mathlib.Core.Path.{_≡_};
-ghost use lib.IntN.{pos, _*ℤ_};
+ghost use Prim.Native.Nat.{_≤_};
+ghost use lib.IntN.{pos, _+ℤ_, _*ℤ_};
 ghost use lib.Signed.{_≤ℤ_};
 ghost use Rattle.std.specs.Numbers.{saturated};
-ghost use Rattle.valuation.specs.Means.{round-mean, round-discount, mean};
+ghost use Rattle.std.specs.shelf.Lists.{All};
+ghost use Rattle.units.specs.Ranges.{million};
+ghost use Rattle.valuation.specs.Means.{round-mean, round-discount, mean, LawfulFigure, LawfulRow, products};
 use crate::Valuation;
 use units::rounding::nearest;
 
@@ -43,11 +46,17 @@ pub impl Valuation for Mean as MeanValuation {
         amount
     }
 
-    fn add(&self, figure: i64, amount: i64) -> i64 {
+    fn add(&self, figure: i64, amount: i64) -> i64
+        ensures meaning { λ r. ⌜ r ≡ mean .add figure amount ⌝ }
+        ensures formula { λ r. ⌜ (LawfulFigure figure → LawfulFigure amount → r ≡ figure +ℤ amount) ⌝ }
+    {
         figure.saturating_add(amount)
     }
 
-    fn join(&self, _state: usize, row: &[u32], following: &[i64]) -> i64 {
+    fn join(&self, _state: usize, row: &[u32], following: &[i64]) -> i64
+        ensures meaning { λ r. ⌜ r ≡ mean .join «_state» (now (row .entry)) (now (following .entry)) ⌝ }
+        ensures formula { λ r. ⌜ (LawfulRow (now (row .entry)) → All LawfulFigure (now (following .entry)) → r ≡ round-mean (products (now (row .entry)) (now (following .entry)))) ⌝ }
+    {
         let mut sum = 0i64;
         for (share, figure) in row.iter().zip(following.iter()) {
             sum = sum.saturating_add(parts_of(*share, *figure));
@@ -55,7 +64,10 @@ pub impl Valuation for Mean as MeanValuation {
         round_mean(sum)
     }
 
-    fn discount(&self, factor: u32, figure: i64) -> i64 {
+    fn discount(&self, factor: u32, figure: i64) -> i64
+        ensures meaning { λ r. ⌜ r ≡ mean .discount factor figure ⌝ }
+        ensures formula { λ r. ⌜ (factor ≤ million → LawfulFigure figure → r ≡ round-discount (pos factor *ℤ figure)) ⌝ }
+    {
         round_discount(parts_of(factor, figure))
     }
 }

@@ -6,7 +6,8 @@ use mir.Val.{SFits, toZ, ofZ}
 use Rattle.std.specs.Numbers.{saturated}
 use Rattle.std.proofs.shelf.Pairs.{zip-more, either-empty-from-zip}
 use Rattle.std.proofs.shelf.Signed.{toZ-ofZ}
-use Rattle.valuation.specs.Means.{round-mean}
+use Rattle.valuation.specs.Means.{round-mean, mean}
+use Rattle.valuation.proofs.Agreement.{join-is}
 use Rattle.valuation.proofs.Sums.{weighted-more, weighted-all}
 use Rattle.valuation.proofs.mean.MeanValuation.join.Needs as need
 
@@ -23,4 +24,6 @@ pub returns : need.returns
 returns c =
     let ended = either-empty-from-zip (c .loop-share .share-iterator) (c .next .last .self) (c .next .result) (c .in-None .is) (c .next .ensures .steps) in
     let fits : SFits w64 (c .round-mean .result) = search needs in
-    toZ-ofZ w64 _ fits ∙ c .round-mean .ensures ∙ ap round-mean (sym (weighted-all _ _ _ ended) ∙ c .loop-share .inv)
+    let meaning : toZ w64 (ofZ w64 (c .round-mean .result)) ≡ mean .join (c .args .-state) (c .args .row .now) (c .args .following .now) =
+    toZ-ofZ w64 _ fits ∙ c .round-mean .ensures ∙ ap round-mean (sym (weighted-all _ _ _ ended) ∙ c .loop-share .inv) in
+    record { meaning = meaning; formula = λ whole each. meaning ∙ join-is (c .args .row .now) (c .args .following .now) (c .args .-state) whole each }
