@@ -5,15 +5,15 @@ ghost use Rattle.units.specs.Near.{Within};
 ghost use Rattle.valuation.specs.Reserves.{reserve};
 use crate::mean::Mean;
 use crate::mean::MeanValuation;
-use crate::sweep::figure_at;
+use crate::sweep::Sweep;
 use basis::Basis;
 use plan::Plan;
 use units::premium::Premium;
 
 // The reserve in a state and a year. The three slices are written over.
-fn reserve_over<B: Basis, P: Plan>(
-    basis: &B,
-    plan: &P,
+fn reserve_over<'a, B: Basis, P: Plan>(
+    basis: &'a B,
+    plan: &'a P,
     premium: Premium,
     state: usize,
     year: usize,
@@ -27,17 +27,13 @@ fn reserve_over<B: Basis, P: Plan>(
     ensures value { λ r. ⌜ r ≡ reserve (B·Basis .meaning (now (basis .entry))) (P·Plan .payments (now (plan .entry))) (premium .ticks) state year ⌝ }
     ensures range { λ r. ⌜ Within 5000000000000 r ⌝ }
 {
-    figure_at(
-        &Mean {},
+    let sweep = Sweep {
+        valuation: &Mean {},
         basis,
         plan,
         premium,
-        state,
-        year,
-        after,
-        following,
-        figures,
-    )
+    };
+    sweep.figure_at(state, year, after, following, figures)
 }
 
 // The reserve in a state and a year, at a premium. Past the last year, and in a state that the basis does not have,

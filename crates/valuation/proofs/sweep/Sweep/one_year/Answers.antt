@@ -1,6 +1,6 @@
 use native.Mathlib.Omega.{arith}
 use Rattle.valuation.proofs.Loops.{counted-more, counted-all}
-use Rattle.valuation.proofs.sweep.one_year.Needs as need
+use Rattle.valuation.proofs.sweep.Sweep.one_year.Needs as need
 
 pub loop-state-again : need.loop-state-again
 loop-state-again g c = λ next is. counted-more _ (c .loop-state .figures) (c .loop-state .state) (c .one-state .result) (omega arith) (c .one-state .ensures next is) (c .loop-state .inv next is)

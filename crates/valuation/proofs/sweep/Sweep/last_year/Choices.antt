@@ -1,0 +1,10 @@
+use mathlib.Core.Path.{_≡_}
+use mathlib.Core.List.{map}
+use lib.ListN.{take}
+use Rattle.std.specs.Iters.{counting}
+use Rattle.valuation.specs.Figures.{flow, figure-before, Given}
+use Rattle.valuation.proofs.sweep.Sweep.last_year.Given as given
+
+abbrev pub Inv-loop-state : given.InvT-loop-state
+Inv-loop-state g l =
+    take (l .state) (l .figures) ≡ map (λ i. g .V·Valuation .operations (l .self .valuation .now) .make (flow (g .B·Basis .meaning (l .self .basis .now)) (g .P·Plan .payments (l .self .plan .now)) (l .self .premium .ticks) i (l .year))) (counting 0 (l .state))
