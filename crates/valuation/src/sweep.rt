@@ -87,10 +87,8 @@ impl<'a, V: Valuation, B: Basis, P: Plan> Sweep<'a, V, B, P> {
         self.fill_row(state, year, row);
         self.fill_following(state, year, after, following);
         let joined = self.valuation.join(state, row, following);
-        (
-            self.valuation.discount(self.basis.factor(year), joined),
-            joined,
-        )
+        let discounted = self.valuation.discount(self.basis.factor(year), joined);
+        (discounted, joined)
     }
 
     // The figure of a state in a year, where `after` has the figures of the next year. `following` is written over.
