@@ -8,7 +8,7 @@ pub mod shift;
 #[cfg(test)]
 mod tests;
 
-// What every basis answers. Shares and factors are parts of a million; none of the calls refuses or changes anything.
+// What every basis answers, for any year and state. Shares and factors are parts of a million.
 pub trait Basis {
     ghost meaning: { Self → Transitions };
 

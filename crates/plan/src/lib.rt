@@ -6,7 +6,7 @@ pub mod endowment;
 #[cfg(test)]
 mod tests;
 
-// What every plan answers, in ticks. None of the calls refuses or changes anything.
+// What every plan answers, for any year and state. Amounts are ticks.
 pub trait Plan {
     ghost payments: { Self → Payments };
 

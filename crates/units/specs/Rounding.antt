@@ -5,7 +5,7 @@ use lib.Signed.{_≤ℤ_}
 use Rattle.std.specs.Numbers.{divEuclid}
 use Rattle.units.specs.Near.{Near}
 
--- the largest whole number not above (a + 500,000) / 1,000,000
+-- millionths to the nearest whole, halves upwards: (a + 500,000) / 1,000,000, rounded down
 abbrev pub nearest : ℤ → ℤ
 nearest a = divEuclid (a +ℤ pos 500000) (pos 1000000)
 

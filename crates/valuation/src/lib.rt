@@ -8,8 +8,8 @@ mod sweep;
 #[cfg(test)]
 mod tests;
 
-// How the sweep reckons with figures of one kind. None of the calls refuses or changes anything,
-// and each keeps order in the amount and in every figure that it is given, on one row and one factor.
+// How the sweep reckons with figures of one kind. Each call has an answer for all arguments,
+// and raising the amount or a figure that it is given never lowers that answer.
 pub trait Valuation {
     type Figure: Copy;
 

@@ -33,7 +33,7 @@ fn check(deaths: &[i64], factor: i64) -> Result<(), Fault>
 }
 
 impl LifeTable {
-    // One year in which everybody stays, and nothing is discounted. All the memory that a table can need is asked for here.
+    // One year in which nobody dies and nothing is discounted. All the memory that a table can need is asked for here.
     pub fn new(heap: Global) -> Result<LifeTable, AllocError>
         ensures { λ r. ⌜ made r (λ s. Holds s (pos 0 ∷ []) (pos million)) ⌝ }
     {

@@ -1,4 +1,4 @@
-// The life basis: state 0 is alive, state 1 is dead for good.
+// The life basis: one life, which in state 0 goes on and in state 1 has ended.
 ghost use Prim.Native.Nat.{ℕ, _≤_};
 ghost use lib.ListN.{getD};
 ghost use Rattle.std.specs.Of.Vec.{vec-items, vec-len, vec-cap};
