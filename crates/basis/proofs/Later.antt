@@ -1,8 +1,7 @@
 -- A basis some years on keeps the law. Assumes nothing.
-use mathlib.Core.Path.{_≡_, refl, _∙_}
-use Prim.Native.Nat.{ℕ, _+_, _-_, _<_}
+use mathlib.Core.Path.{_∙_}
+use Prim.Native.Nat.{ℕ, _+_, _<_}
 use native.Mathlib.Omega.{arith}
-use Rattle.std.specs.shelf.Lists.{sumBy}
 use Rattle.std.proofs.shelf.Ways.{tells}
 use Rattle.units.proofs.Sums.{sumBy-same}
 use Rattle.basis.specs.Transitions.{Transitions, Lawful, moves}

@@ -1,7 +1,5 @@
 // Checks of the columns that callers hand in.
-ghost use mathlib.Core.Path.{_≡_};
-ghost use Prim.Native.Nat.{ℕ, _<_};
-ghost use lib.IntN.{pos};
+ghost use Prim.Native.Nat.{_<_};
 ghost use Rattle.std.specs.Options.{Cases};
 ghost use Rattle.basis.specs.Columns.{AllBetween, FirstOutside};
 

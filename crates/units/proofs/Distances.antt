@@ -4,7 +4,6 @@ use Prim.Native.Nat.{ℕ, _+_, _*_, _≤_}
 use native.Mathlib.Nat.{mul-zero}
 use native.Mathlib.Omega.{arith}
 use lib.IntN.{ℤ, pos, _+ℤ_, _*ℤ_}
-use lib.Signed.{_≤ℤ_}
 use borrow.Author.Differences.{ints}
 use Rattle.units.specs.Near.{Near, Within}
 use Rattle.units.proofs.Whole.{times-add, times-le}

@@ -1,12 +1,9 @@
 -- The laws of rounding to the nearest. Assumes nothing.
-use mathlib.Core.Path.{_≡_}
-use Prim.Native.Nat.{ℕ}
 use native.Mathlib.Omega.{arith}
 use lib.IntN.{ℤ, pos, negsuc, _+ℤ_, _*ℤ_}
 use lib.Signed.{_≤ℤ_}
 use borrow.Author.Differences.{ints}
 use Rattle.std.specs.Numbers.{divEuclid}
-use Rattle.units.specs.Near.{Near}
 use Rattle.units.specs.Rounding.{nearest, ToNearest}
 
 floor-near : (a : ℤ) → ((pos 1000000 *ℤ divEuclid a (pos 1000000)) ≤ℤ a) × (a ≤ℤ (pos 1000000 *ℤ divEuclid a (pos 1000000) +ℤ pos 999999))

@@ -2,7 +2,6 @@
 ghost use mathlib.Core.Path.{_≡_};
 ghost use Prim.Native.Nat.{_≤_};
 ghost use lib.IntN.{pos};
-ghost use lib.Signed.{_≤ℤ_};
 ghost use Rattle.std.specs.Options.{Cases};
 ghost use Rattle.units.specs.Ranges.{limit, WithinLimit};
 use crate::LIMIT;

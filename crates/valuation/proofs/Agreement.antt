@@ -1,5 +1,5 @@
 -- The sweep's figures in the mean are the reserves. Assumes nothing.
-use mathlib.Core.Path.{_≡_, refl, sym, ap, subst, _∙_}
+use mathlib.Core.Path.{_≡_, refl, ap, subst, _∙_}
 use mathlib.Core.List.{List, [], _∷_, map}
 use mathlib.Core.Logic.{⊎-elim}
 use Prim.Native.Nat.{ℕ, zero, suc, _+_, _-_, _*_, _≤_, _<_}
@@ -7,7 +7,6 @@ use native.Mathlib.Nat.{mul-le-mul-right}
 use native.Mathlib.Omega.{arith}
 use lib.IntN.{ℤ, pos, _+ℤ_, _*ℤ_}
 use borrow.Author.Differences.{ints}
-use Rattle.std.specs.Numbers.{saturated}
 use Rattle.std.specs.shelf.Lists.{All}
 use Rattle.std.proofs.shelf.Sums.{sum-map}
 use Rattle.std.proofs.shelf.Ways.{leb-tells}
@@ -46,13 +45,18 @@ add-is x a small more = unsaturated _ (within-more (omega arith) (within-add sma
 
 module _ (c : Transitions) (law : Lawful c) (p : Payments) (range : InRange p) where
   module _ (i t d : ℕ) (next : ℕ → ℤ) (early : t < c .years) (each : (j : ℕ) → Within d (next j)) (room : limit + d ≤ 5000000000000) where
+    paid : (j : ℕ) → Within limit (pos (p .move-benefit i j t))
+    paid j = within-pos limit (p .move-benefit i j t) (range .most-move-benefit i j t)
+
     follows-within : (j : ℕ) → LawfulFigure (pos (p .move-benefit i j t) +ℤ next j)
-    follows-within j = within-more room (within-add (within-pos limit (p .move-benefit i j t) (range .most-move-benefit i j t)) (each j))
+    follows-within j = within-more room (within-add (paid j) (each j))
 
     follows-is : map (λ j. mean .add (next j) (pos (p .move-benefit i j t))) (moves c) ≡ map (λ j. pos (p .move-benefit i j t) +ℤ next j) (moves c)
     follows-is =
         map-same (λ j. mean .add (next j) (pos (p .move-benefit i j t))) (λ j. pos (p .move-benefit i j t) +ℤ next j) (moves c)
-        (λ j. ap (saturated 63) (turned (next j) (pos (p .move-benefit i j t))) ∙ unsaturated _ (within-more (omega arith) (follows-within j)))
+        (λ j.
+        add-is (next j) (pos (p .move-benefit i j t)) (within-more (omega arith) (each j)) (within-more (omega arith) (paid j))
+        ∙ turned (next j) (pos (p .move-benefit i j t)))
 
     pub joined-is : joined mean c p i t next ≡ expected c p i t next
     joined-is =
@@ -77,9 +81,9 @@ module _ (c : Transitions) (law : Lawful c) (p : Payments) (range : InRange p) w
         let years = law .most-years in
         let each : (j : ℕ) → Within (reach k) (next j) = λ j. reserve-within c law p range premium small k j (t + 1) (omega arith) in
         ap (λ f. figure-before mean c p premium i t f) same
-        ∙ ap (λ z. saturated 63 (z +ℤ flow c p premium i t)) (discounted-is i t (reach k) next (omega arith) each (omega arith))
-        ∙ ap (saturated 63) (turned (present c p i t next) (flow c p premium i t))
-        ∙ unsaturated _ (within-more (omega arith) (reserve-within c law p range premium small (suc k) i t l))
+        ∙ ap (λ z. mean .add z (flow c p premium i t)) (discounted-is i t (reach k) next (omega arith) each (omega arith))
+        ∙ add-is (present c p i t next) (flow c p premium i t) (within-more (omega arith) (present-within c law p range i t (reach k) next (omega arith) each)) (within-more (omega arith) (flow-within c law p range premium small i t))
+        ∙ turned (present c p i t next) (flow c p premium i t)
 
     -- what holds of every reserve with k years left at which the last year is not passed, and of every flow, holds of every reserve
     at-any-year : (P : ℕ → ℕ → Type 0) → ((k t : ℕ) → t + k ≤ c .years → P k t) → ((t : ℕ) → P 0 t) → (t : ℕ) → P (c .years - t) t

@@ -1,12 +1,11 @@
 -- No reserve of a lawful basis and a plan in range leaves ±5 · 10^12 ticks. Assumes nothing.
-use mathlib.Core.Path.{_≡_}
 use mathlib.Core.Bool.{Bool, true, false, cond, _&&_}
 use mathlib.Core.Logic.{⊎-elim}
-use Prim.Native.Nat.{ℕ, zero, suc, _+_, _-_, _*_, _≤_, _<_}
+use Prim.Native.Nat.{ℕ, zero, suc, _+_, _*_, _≤_, _<_}
 use native.Mathlib.Nat.{mul-le-mul-right}
 use native.Mathlib.Omega.{arith}
 use lib.Dec.{ltb}
-use lib.IntN.{ℤ, pos, _+ℤ_, _*ℤ_}
+use lib.IntN.{ℤ, pos, _+ℤ_}
 use borrow.Author.Differences.{ints}
 use Rattle.std.specs.shelf.Lists.{sumBy}
 use Rattle.std.proofs.shelf.Ways.{leb-tells}
@@ -17,7 +16,7 @@ use Rattle.units.proofs.Sums.{sumBy-none, sumZ-within}
 use Rattle.basis.specs.Transitions.{Transitions, Lawful, moves}
 use Rattle.plan.specs.Payments.{Payments, InRange}
 use Rattle.valuation.specs.Figures.{flow}
-use Rattle.valuation.specs.Reserves.{expected, present, reserve-with, reserve}
+use Rattle.valuation.specs.Reserves.{expected, present, reserve-with}
 use Rattle.valuation.proofs.Rounded.{round-mean-within, round-discount-within}
 
 charged : (b : Bool) (premium : ℕ) → premium ≤ limit → cond b premium 0 ≤ limit

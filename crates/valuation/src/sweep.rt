@@ -1,10 +1,9 @@
 // The backward sweep, for every kind of figure. It allocates nothing: callers lend it slices as long as the basis has states.
 ghost use mathlib.Core.Path.{_≡_};
 ghost use mathlib.Core.List.{map};
-ghost use Prim.Native.Nat.{ℕ, _+_, _-_, _≤_, _<_};
+ghost use Prim.Native.Nat.{_≤_, _<_};
 ghost use lib.ListN.{length};
 ghost use lib.IntN.{pos};
-ghost use Rattle.std.specs.Iters.{counting};
 ghost use Rattle.basis.specs.Transitions.{moves};
 ghost use Rattle.valuation.specs.Figures.{flow, joined, discounted, figure-before, figure, figures-of, Given};
 use crate::Valuation;
@@ -36,20 +35,22 @@ impl<'a, V: Valuation, B: Basis, P: Plan> Sweep<'a, V, B, P> {
 
     // The shares of the moves out of a state in a year.
     fn fill_row(&self, state: usize, year: usize, row: &mut [u32])
-        ensures { λ _. ⌜ now (row .exit) ≡ map (λ j. (B·Basis .meaning (now (now (self .entry) .basis))) .share state j year) (counting 0 (length (now (row .entry)))) ⌝ }
+        requires { ⌜ length (now row) ≡ (B·Basis .meaning (now (now self .basis))) .states ⌝ }
+        ensures { λ _. ⌜ now (row .exit) ≡ map (λ j. (B·Basis .meaning (now (now (self .entry) .basis))) .share state j year) (moves (B·Basis .meaning (now (now (self .entry) .basis)))) ⌝ }
     {
         for to in 0..row.len() {
             row[to] = self.basis.share(state, to, year);
         }
     }
 
-    // What follows a move: its benefit, and the figure of the state that it leads to, which `after` has for every state.
+    // What follows a move: its benefit, and the figure of the state that it leads to, where `after` has those of the next year.
     fn follow(&self, from: usize, to: usize, year: usize, after: &[V::Figure]) -> V::Figure
-        requires { ⌜ to < length (now after) ⌝ }
-        ensures { λ r. ⌜ ((next : ℕ → V·Figure) → now (after .entry) ≡ map next (counting 0 (length (now (after .entry)))) → r ≡ (V·Valuation .operations (now (now (self .entry) .valuation))) .add (next to) (pos ((P·Plan .payments (now (now (self .entry) .plan))) .move-benefit from to year))) ⌝ }
+        requires inside { ⌜ to < (B·Basis .meaning (now (now self .basis))) .states ⌝ }
+        requires after { ⌜ length (now after) ≡ (B·Basis .meaning (now (now self .basis))) .states ⌝ }
+        ensures { λ r. ⌜ Given (B·Basis .meaning (now (now (self .entry) .basis))) (now (after .entry)) (λ next. r ≡ (V·Valuation .operations (now (now (self .entry) .valuation))) .add (next to) (pos ((P·Plan .payments (now (now (self .entry) .plan))) .move-benefit from to year))) ⌝ }
     {
-        self.valuation
-            .add(after[to], self.plan.move_benefit(from, to, year) as i64)
+        let benefit = self.plan.move_benefit(from, to, year) as i64;
+        self.valuation.add(after[to], benefit)
     }
 
     // What follows each move out of a state in a year, where `after` has the figures of the next year.
@@ -60,17 +61,18 @@ impl<'a, V: Valuation, B: Basis, P: Plan> Sweep<'a, V, B, P> {
         after: &[V::Figure],
         following: &mut [V::Figure],
     )
-        requires { ⌜ length (now after) ≡ length (now following) ⌝ }
-        ensures { λ _. ⌜ ((next : ℕ → V·Figure) → now (after .entry) ≡ map next (counting 0 (length (now (after .entry)))) → now (following .exit) ≡ map (λ j. (V·Valuation .operations (now (now (self .entry) .valuation))) .add (next j) (pos ((P·Plan .payments (now (now (self .entry) .plan))) .move-benefit state j year))) (counting 0 (length (now (after .entry))))) ⌝ }
+        requires after { ⌜ length (now after) ≡ (B·Basis .meaning (now (now self .basis))) .states ⌝ }
+        requires following { ⌜ length (now following) ≡ (B·Basis .meaning (now (now self .basis))) .states ⌝ }
+        ensures { λ _. ⌜ Given (B·Basis .meaning (now (now (self .entry) .basis))) (now (after .entry)) (λ next. now (following .exit) ≡ map (λ j. (V·Valuation .operations (now (now (self .entry) .valuation))) .add (next j) (pos ((P·Plan .payments (now (now (self .entry) .plan))) .move-benefit state j year))) (moves (B·Basis .meaning (now (now (self .entry) .basis))))) ⌝ }
     {
-        for to in 0..after.len() {
+        for to in 0..following.len() {
             following[to] = self.follow(state, to, year, after);
         }
     }
 
     // The join of what follows a state in a year, discounted and as it is, where `after` has the figures of the next year.
     // `following` is written over.
-    pub(crate) fn ahead(
+    fn ahead(
         &self,
         state: usize,
         year: usize,
@@ -136,7 +138,7 @@ impl<'a, V: Valuation, B: Basis, P: Plan> Sweep<'a, V, B, P> {
     }
 
     // The figures of all states in a year, backwards from the last year of the basis. `after` and `following` are written over.
-    pub(crate) fn back_to(
+    fn back_to(
         &self,
         year: usize,
         after: &mut [V::Figure],

@@ -1,5 +1,4 @@
 // What a life table answers as a basis.
-ghost use mathlib.Core.Path.{_≡_};
 ghost use Rattle.basis.specs.LifeTables.{life-table};
 use super::LifeTable;
 use crate::Basis;

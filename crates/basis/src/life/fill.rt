@@ -4,7 +4,7 @@ ghost use mathlib.Core.List.{map};
 ghost use Prim.Native.Nat.{_≤_};
 ghost use lib.IntN.{pos};
 ghost use lib.ListN.{length};
-ghost use Rattle.std.specs.Of.Vec.{vec-items, vec-len, vec-cap};
+ghost use Rattle.std.specs.Of.Vec.{vec-items, vec-cap};
 ghost use Rattle.units.specs.Ranges.{million};
 ghost use Rattle.basis.specs.Columns.{AllBetween};
 

@@ -1,5 +1,4 @@
 // Making an endowment.
-ghost use mathlib.Core.Path.{_≡_};
 ghost use Rattle.std.specs.Results.{Cases};
 ghost use Rattle.plan.specs.Endowments.{Holds, Fit, Refuses};
 use super::Endowment;

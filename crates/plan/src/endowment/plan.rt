@@ -1,5 +1,4 @@
 // What an endowment answers as a plan.
-ghost use mathlib.Core.Path.{_≡_};
 ghost use Rattle.plan.specs.Endowments.{endowment};
 use super::Endowment;
 use crate::Plan;

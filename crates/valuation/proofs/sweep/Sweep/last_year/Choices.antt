@@ -2,7 +2,7 @@ use mathlib.Core.Path.{_≡_}
 use mathlib.Core.List.{map}
 use lib.ListN.{take}
 use Rattle.std.specs.Iters.{counting}
-use Rattle.valuation.specs.Figures.{flow, figure-before, Given}
+use Rattle.valuation.specs.Figures.{flow, Given}
 use Rattle.valuation.proofs.sweep.Sweep.last_year.Given as given
 
 abbrev pub Inv-loop-state : given.InvT-loop-state

@@ -2,7 +2,7 @@ use mathlib.Core.Path.{_≡_}
 use mathlib.Core.List.{map}
 use lib.ListN.{take}
 use Rattle.std.specs.Iters.{counting}
-use Rattle.valuation.specs.Figures.{flow, figure-before, Given}
+use Rattle.valuation.specs.Figures.{figure-before, Given}
 use Rattle.valuation.proofs.sweep.Sweep.one_year.Given as given
 
 abbrev pub Inv-loop-state : given.InvT-loop-state
