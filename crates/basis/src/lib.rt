@@ -1,4 +1,6 @@
 // Bases: yearly chances of moving between states, and yearly discount factors.
+#![tactic(auto)]
+
 ghost use Rattle.std.specs.Prelude.{◌≡◌};
 ghost use Rattle.basis.specs.Transitions.{Transitions, Lawful};
 

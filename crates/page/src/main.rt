@@ -1,4 +1,6 @@
 // Prints a page of net single premiums over a life table, and the reserves of one contract year by year.
+#![tactic(auto)]
+
 mod premiums;
 mod swiss_men;
 

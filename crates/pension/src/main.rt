@@ -1,4 +1,6 @@
 // Prints the reserves of a disability pension in every state and year, as an annuity and with a capital besides.
+#![tactic(auto)]
+
 mod capital;
 mod disability;
 

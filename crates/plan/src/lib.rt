@@ -1,4 +1,6 @@
 // Plans: what a contract pays, and when its premium is due.
+#![tactic(auto)]
+
 ghost use Rattle.std.specs.Prelude.{◌≡◌};
 ghost use Rattle.plan.specs.Payments.{Payments, InRange};
 

@@ -36,11 +36,10 @@ fn rule(number: u8) -> &'static str
     ensures { result.now ≡ rule_text number }
 {
     match number {
-        9 => "the number of states or years or the length of a column is unfit",
+        9 => "the number of years or the length of a column is unfit",
         10 => "a factor is outside 1 to a million",
-        11 => "a share is outside 0 to a million or a row misses the million",
-        12 =>
-            "a year, a state or the length of a column of a plan is unfit or an entry is out of range",
+        11 => "a share is outside 0 to a million",
+        12 => "the years of a plan are unfit or an amount is outside 0 to the limit",
         _ => "a rule is broken",
     }
 }

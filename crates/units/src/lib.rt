@@ -1,4 +1,6 @@
 // What all other crates count in: ticks, parts of a million, premiums, and the fault that every refusal is.
+#![tactic(auto)]
+
 pub mod columns;
 pub mod failure;
 pub mod fault;

@@ -38,7 +38,7 @@ fn failures_are_told_in_words(rt: HostRuntime) -> Result<(), Fail> {
     let refused = Failure::Refused(fault).to_string(rt.alloc())?;
     assert!(rt;
         refused.as_str()
-            == "refused with 11 by the basis at year 3, state 0: a share is outside 0 to a million or a row misses the million"
+            == "refused with 11 by the basis at year 3, state 0: a share is outside 0 to a million"
     );
     let memory = Failure::NoMemory.to_string(rt.alloc())?;
     assert!(rt; memory.as_str() == "no memory");

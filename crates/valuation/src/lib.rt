@@ -1,4 +1,6 @@
 // Valuations: what a contract is worth in each state and year, by one backward sweep over a basis and a plan.
+#![tactic(auto)]
+
 ghost use Rattle.std.specs.Prelude.{◌≡◌};
 ghost use Rattle.valuation.specs.Operations.{Operations, Ordered};
 

@@ -7,7 +7,7 @@ use Rattle.basis.proofs.fill.refill.Goals as goal
 pub loop-entry-preserved : goal.loop-entry-preserved
 loop-entry-preserved c =
     let range = c.requires.checked c.loop-entry.entry-index c.loop-entry-test.true in
-    (ap (map pos) c.push-reserved.ensures.items ∙ filled_more _ _ _ _ c.loop-entry-test.true (omega (arith, ints, range.least, range.most)) c.loop-entry.invariant.0, search rules, search rules)
+    (ap (map pos) c.push_reserved.ensures.items ∙ filled_more _ _ _ _ c.loop-entry-test.true (omega (arith, ints, range.least, range.most)) c.loop-entry.invariant.0, search rules, search rules)
 
 pub returns : goal.returns
 returns c = record {

@@ -14,7 +14,7 @@ returns-in-err-check c =
 
 pub refill-requires-2 : goal.refill-requires-2
 refill-requires-2 c =
-    let fit = c.in-ok-check.ensures in
+    let fit = c.in_ok-check.ensures in
     let size = fit.size in
     let few = most_places c.args.states c.args.years size.most_states size.most_years in
     record { checked = fit_entries _ _ _ _ fit; room = omega (arith, few, size.share_places, c.args.self.now.share_room) }
