@@ -3,12 +3,12 @@ ghost use Rattle.std.specs.Prelude.{◌≡◌, [], ◌∷◌, pos, IfOk, MatchRe
 ghost use Rattle.units.specs.Ranges.{million};
 ghost use Rattle.basis.specs.LifeTables.{Holds, Fit, Refuses};
 
-use super::LifeTable;
+use super::{LifeTable, MOST_YEARS};
 use crate::fill::refill;
 use std::alloc::{AllocError, Global};
+use units::MILLION;
 use units::columns::first_outside;
 use units::fault::{Fault, Layer};
-use units::{MILLION, MOST_YEARS};
 
 // Whether a table can hold the column and the factor, and otherwise what is first wrong with them.
 fn check(deaths: &[i64], factor: i64) -> Result<(), Fault>

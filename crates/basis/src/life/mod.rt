@@ -5,6 +5,9 @@ ghost use Rattle.units.specs.Ranges.{million};
 mod basis;
 mod make;
 
+// The longest column of death shares.
+pub use units::MOST_YEARS;
+
 // The share of the living that die in each year, and one discount factor for all years.
 #[derive(Drop)]
 pub struct LifeTable {

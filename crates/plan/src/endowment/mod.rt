@@ -5,6 +5,11 @@ ghost use Rattle.units.specs.Ranges.{limit};
 mod make;
 mod plan;
 
+use units::MOST_YEARS;
+
+// The longest term.
+pub const MOST_TERM: usize = MOST_YEARS;
+
 // The sum insured in ticks, the term, and the number of years in which the premium is due.
 #[derive(Clone, Copy, PartialEq, Eq, Debug)]
 pub struct Endowment {

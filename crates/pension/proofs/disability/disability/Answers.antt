@@ -6,12 +6,12 @@ use Rattle.pension.specs.Disability.{factors, shares}
 use Rattle.pension.proofs.DisabilityFit.{disability_fit}
 use Rattle.pension.proofs.disability.disability.Goals as goal
 
-pub returns-in-err-take-in : goal.returns-in-err-take-in
-returns-in-err-take-in c =
-    let column : c.deref.result.now ≡ shares = c.deref.ensures.value ∙ same_from_all_zip _ _ _ c.in-ok-shares.ensures.ok (λ x y same. same) in
-    absurd (c.in-err-take-in.ensures.0 (subst (Fit 3 10 factors) (sym column) disability_fit))
+pub returns-in_err-take-in : goal.returns-in_err-take-in
+returns-in_err-take-in c =
+    let column : c.deref.result.now ≡ shares = c.deref.ensures.value ∙ same_from_all_zip _ _ _ c.in_ok-shares.ensures.ok (λ x y same. same) in
+    absurd (c.in_err-take-in.ensures.0 (subst (Fit 3 10 factors) (sym column) disability_fit))
 
 pub returns : goal.returns
 returns c =
-    let column : c.deref.result.now ≡ shares = c.deref.ensures.value ∙ same_from_all_zip _ _ _ c.in-ok-shares.ensures.ok (λ x y same. same) in
-    subst (Holds c.take-in.new.self 3 factors) column c.in-ok-take-in.ensures.1
+    let column : c.deref.result.now ≡ shares = c.deref.ensures.value ∙ same_from_all_zip _ _ _ c.in_ok-shares.ensures.ok (λ x y same. same) in
+    subst (Holds c.take-in.new.self 3 factors) column c.in_ok-take-in.ensures.1

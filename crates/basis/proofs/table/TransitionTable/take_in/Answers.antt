@@ -6,10 +6,10 @@ use Rattle.basis.proofs.Rows.{unfit, fit_entries, most_places, rows_by_number, r
 use Rattle.basis.proofs.Taken.{kept_between}
 use Rattle.basis.proofs.table.TransitionTable.take_in.Goals as goal
 
-pub returns-in-err-check : goal.returns-in-err-check
-returns-in-err-check c =
-    let p = err_from_is_err_and c.from-residual.result c.from-residual.ensures.1 in
-    let refuses = c.in-err-check.ensures in
+pub returns-in_err-check : goal.returns-in_err-check
+returns-in_err-check c =
+    let p = err_from_is_err_and c.from_residual.result c.from_residual.ensures.1 in
+    let refuses = c.in_err-check.ensures in
     rw (p.1, p.2) (unfit _ _ _ _ _ refuses, refuses, refl)
 
 pub refill-requires-2 : goal.refill-requires-2
@@ -19,9 +19,9 @@ refill-requires-2 c =
     let few = most_places c.args.states c.args.years size.most_states size.most_years in
     record { checked = fit_entries _ _ _ _ fit; room = omega (arith, few, size.share_places, c.args.self.now.share_room) }
 
-pub invariant-of-self : goal.invariant-of-self
-invariant-of-self c =
-    let fit = c.in-ok-check.ensures in
+pub invariant_of-self : goal.invariant_of-self
+invariant_of-self c =
+    let fit = c.in_ok-check.ensures in
     let size = fit.size in
     let factors = c.refill.ensures.items in
     let shares = c.refill-2.ensures.items in
@@ -30,28 +30,16 @@ invariant-of-self c =
     let places : vec_len c.refill-2.new.parts ≡ vec_len c.refill.new.parts * c.args.states * c.args.states = c.refill-2.new.parts.ok.0 ∙ long ∙ ap (λ n. n * c.args.states * c.args.states) (sym years) in
     let inside : (r : ℕ) → r < vec_len c.refill.new.parts * c.args.states → r < c.args.years * c.args.states = λ r below. omega (arith, below, ap (λ n. n * c.args.states) years) in
     let some : 1 ≤ c.args.states = omega (arith, size.least_states) in
-    let factor = kept_between _ _ 1 million factors fit.discount in (
-      size.least_states,
-      (
-        size.most_states,
-        (
-          omega (arith, years, size.least_years),
-          (
-            omega (arith, years, size.most_years),
-            (
-              places,
-              (
-                (λ t below. (factor t (omega (arith, below, c.refill.new.parts.ok.0))).0),
-                (
-                  (λ t below. (factor t (omega (arith, below, c.refill.new.parts.ok.0))).1),
-                  (
-                    (λ r below. whole_row _ _ c.args.states r shares (omega (arith, long, row_ends r (c.args.years * c.args.states) c.args.states (inside r below))) (rows_by_number _ _ _ some fit.rows r (inside r below))),
-                    (omega (arith, c.refill.ensures.capacity), (omega (arith, c.refill-2.ensures.capacity), tt)),
-                  ),
-                ),
-              ),
-            ),
-          ),
-        ),
-      ),
-    )
+    let factor = kept_between _ _ 1 million factors fit.discount in
+    record {
+      least_states = size.least_states;
+      most_states = size.most_states;
+      least_years = omega (arith, years, size.least_years);
+      most_years = omega (arith, years, size.most_years);
+      places = places;
+      least_factor = λ t below. (factor t (omega (arith, below, c.refill.new.parts.ok.0))).0;
+      most_factor = λ t below. (factor t (omega (arith, below, c.refill.new.parts.ok.0))).1;
+      rows = λ r below. whole_row _ _ c.args.states r shares (omega (arith, long, row_ends r (c.args.years * c.args.states) c.args.states (inside r below))) (rows_by_number _ _ _ some fit.rows r (inside r below));
+      factor_room = omega (arith, c.refill.ensures.capacity);
+      share_room = omega (arith, c.refill-2.ensures.capacity);
+    }

@@ -6,11 +6,11 @@ use Rattle.plan.specs.Payments.{Payments}
 use Rattle.valuation.specs.Figures.{flow}
 use Rattle.valuation.proofs.sweep.Sweep.flow_of.Goals as goal
 
-pub overflow-cast-benefit : goal.overflow-cast-benefit
-overflow-cast-benefit g c = let most = (g.met.P.Plan.bounded c.args.self.now.plan.now).most_benefit c.args.state c.args.year in search rules
+pub overflow_cast-benefit : goal.overflow_cast-benefit
+overflow_cast-benefit g c = let most = (g.met.P.Plan.bounded c.args.self.now.plan.now).most_benefit c.args.state c.args.year in search rules
 
-pub overflow-sub-result : goal.overflow-sub-result
-overflow-sub-result g c = let most = (g.met.P.Plan.bounded c.args.self.now.plan.now).most_benefit c.args.state c.args.year in search rules
+pub overflow_sub-result : goal.overflow_sub-result
+overflow_sub-result g c = let most = (g.met.P.Plan.bounded c.args.self.now.plan.now).most_benefit c.args.state c.args.year in search rules
 
 -- the flow where the premium is due
 charged : (c : Transitions) (p : Payments) (premium i t : ℕ) → t < c.years → p.due i t ≡ true → pos (p.benefit i t) -ℤ pos premium ≡ flow c p premium i t

@@ -3,8 +3,8 @@ use Rattle.std.proofs.lemmas.List.FromFn.{get_or-map-range_with_len}
 use Rattle.std.proofs.lemmas.Int.{to_z_pos}
 use Rattle.valuation.proofs.sweep.Sweep.follow.Goals as goal
 
-pub overflow-cast-benefit : goal.overflow-cast-benefit
-overflow-cast-benefit g c = let most = (g.met.P.Plan.bounded c.args.self.now.plan.now).most_move_benefit c.args.from c.args.to c.args.year in search rules
+pub overflow_cast-benefit : goal.overflow_cast-benefit
+overflow_cast-benefit g c = let most = (g.met.P.Plan.bounded c.args.self.now.plan.now).most_move_benefit c.args.from c.args.to c.args.year in search rules
 
 pub returns : goal.returns
 returns g c = λ next is.

@@ -4,8 +4,8 @@ use borrow.Author.Differences.{ints}
 use Rattle.plan.specs.PaymentColumns.{place}
 use Rattle.plan.proofs.table.plan.PaymentTablePlan.benefit.Goals as goal
 
-pub overflow-cast-result : goal.overflow-cast-result
-overflow-cast-result c =
+pub overflow_cast-result : goal.overflow_cast-result
+overflow_cast-result c =
     let low = c.args.self.now.least_benefit (place c.args.state c.args.year) in
     let high = c.args.self.now.most_benefit (place c.args.state c.args.year) in
     search (rules, ints, get_or_read)
