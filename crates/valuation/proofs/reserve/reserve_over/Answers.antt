@@ -11,9 +11,9 @@ returns g c =
     let plan = g.P.Plan.payments c.args.plan.now in
     let law = g.met.B.Basis.lawful c.args.basis.now in
     let range = g.met.P.Plan.bounded c.args.plan.now in
-    let fits : SFits w64 c.figure-at.result = search rules in
-    let value : to_z w64 (of_z w64 c.figure-at.result) ≡ reserve basis plan c.args.premium.ticks c.args.state c.args.year =
-    to_z-of_z w64 _ fits ∙ c.figure-at.ensures ∙ figure_is basis law plan range c.args.premium.ticks c.args.premium.range c.args.state c.args.year in
+    let fits : SFits w64 c.figure_at.result = search rules in
+    let value : to_z w64 (of_z w64 c.figure_at.result) ≡ reserve basis plan c.args.premium.ticks c.args.state c.args.year =
+    to_z-of_z w64 _ fits ∙ c.figure_at.ensures ∙ figure_is basis law plan range c.args.premium.ticks c.args.premium.range c.args.state c.args.year in
     record {
       value = value;
       range = subst (Within 5000000000000) (sym value) (reserve_bound basis law plan range c.args.premium.ticks c.args.premium.range c.args.state c.args.year);

@@ -7,8 +7,8 @@ use Rattle.valuation.proofs.sweep.Sweep.figure_at.Goals as goal
 pub returns-then-year-years : goal.returns-then-year-years
 returns-then-year-years g c =
     let v = g.V.Valuation.operations c.args.self.now.valuation.now in
-    let fits : SFits w64 c.flow-of.result = search rules in
-    c.make.ensures ∙ ap v.make (to_z-of_z w64 _ fits ∙ c.flow-of.ensures)
+    let fits : SFits w64 c.flow_of.result = search rules in
+    c.make.ensures ∙ ap v.make (to_z-of_z w64 _ fits ∙ c.flow_of.ensures)
     ∙ figure_late v (g.B.Basis.meaning c.args.self.now.basis.now) (g.P.Plan.payments c.args.self.now.plan.now) c.args.self.now.premium.ticks c.args.state c.args.year (omega arith)
 
 pub returns : goal.returns
@@ -16,5 +16,5 @@ returns g c =
     let v = g.V.Valuation.operations c.args.self.now.valuation.now in
     let basis = g.B.Basis.meaning c.args.self.now.basis.now in
     let plan = g.P.Plan.payments c.args.self.now.plan.now in
-    c.one-state.ensures (λ j. figure v basis plan c.args.self.now.premium.ticks j (c.args.year + 1)) c.back-to.ensures
+    c.one_state.ensures (λ j. figure v basis plan c.args.self.now.premium.ticks j (c.args.year + 1)) c.back_to.ensures
     ∙ figure_earlier v basis plan c.args.self.now.premium.ticks c.args.state c.args.year (omega arith)

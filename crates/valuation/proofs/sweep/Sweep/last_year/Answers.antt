@@ -5,9 +5,9 @@ use Rattle.valuation.proofs.sweep.Sweep.last_year.Goals as goal
 
 pub loop-state-preserved : goal.loop-state-preserved
 loop-state-preserved g c =
-    let fits : SFits w64 c.flow-of.result = search rules in
+    let fits : SFits w64 c.flow_of.result = search rules in
     counted_more _ c.loop-state.figures c.loop-state.state c.make.result (omega arith)
-    (c.make.ensures ∙ ap (g.V.Valuation.operations c.args.self.now.valuation.now).make (to_z-of_z w64 _ fits ∙ c.flow-of.ensures))
+    (c.make.ensures ∙ ap (g.V.Valuation.operations c.args.self.now.valuation.now).make (to_z-of_z w64 _ fits ∙ c.flow_of.ensures))
     c.loop-state.invariant
 
 pub returns : goal.returns
