@@ -6,5 +6,5 @@ use Rattle.pension.proofs.capital.ten_years.Goals as goal
 pub returns : goal.returns
 returns c =
     let years : vec_items c.in_ok-column.column ≡ repeat 10 c.args.year.now = same_from_all_zip _ _ _ c.in_ok-column.ensures.items (λ x y same. same) in
-    let whole : vec_items c.extend-from-slice.new.self ≡ vec_items c.in_ok-column.column ++ c.args.last.now = search rules in
+    let whole : vec_items c.extend_from_slice.new.self ≡ vec_items c.in_ok-column.column ++ c.args.last.now = search rules in
     whole ∙ ap (λ xs. xs ++ c.args.last.now) years
