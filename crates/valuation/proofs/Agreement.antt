@@ -1,7 +1,7 @@
 -- The sweep's figures in the mean are the reserves. Assumes nothing.
 use Rattle.std.proofs.Common.{◌≡◌, ℕ, zero, suc, ◌+◌, ◌-◌, ◌*◌, ◌<◌, ◌≤◌, List, [], ◌∷◌, map, ℤ, pos, ◌+ℤ◌, ◌*ℤ◌, refl, ap, ◌∙◌, subst, ⊎_elim, mul-le-mul_right, arith}
 use borrow.Author.Differences.{ints}
-use Rattle.std.specs.List.{AllByRecursion as All}
+use Rattle.std.specs.List.{AllByRecursion}
 use Rattle.std.proofs.lemmas.List.Sums.{sum-map}
 use Rattle.std.proofs.lemmas.Bool.Decides.{leb_tells}
 use Rattle.units.specs.Near.{Within}
@@ -26,7 +26,7 @@ nought_and : (a : ℤ) → pos 0 +ℤ a ≡ a
 nought_and a = omega (arith, ints)
 
 -- the mean's own operations where every answer is fixed
-pub join_is : (row : List ℕ) (xs : List ℤ) (i : ℕ) → LawfulRow row → All LawfulFigure xs → mean.join i row xs ≡ rounded_mean (products row xs)
+pub join_is : (row : List ℕ) (xs : List ℤ) (i : ℕ) → LawfulRow row → AllByRecursion LawfulFigure xs → mean.join i row xs ≡ rounded_mean (products row xs)
 join_is row xs i whole each = ap rounded_mean (weighted_is row xs 0 (pos 0) (omega arith) (within_pos _ 0 (omega arith)) each ∙ nought_and (products row xs))
 
 pub discount_is : (factor : ℕ) (x : ℤ) → factor ≤ million → LawfulFigure x → mean.discount factor x ≡ rounded_discount (pos factor *ℤ x)

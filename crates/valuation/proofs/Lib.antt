@@ -1,5 +1,6 @@
 pub mod Agreement
 pub mod Loops
 pub mod Range
+pub mod Rounded
 pub mod Sums
 pub mod Years

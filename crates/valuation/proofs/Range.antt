@@ -10,7 +10,7 @@ use Rattle.basis.specs.Transitions.{Transitions, Lawful, moves}
 use Rattle.plan.specs.Payments.{Payments, InRange}
 use Rattle.valuation.specs.Figures.{flow}
 use Rattle.valuation.specs.Reserves.{expected, present, reserve_with}
-use Rattle.valuation.specs.Rounded.{rounded_mean_within, rounded_discount_within}
+use Rattle.valuation.proofs.Rounded.{rounded_mean_within, rounded_discount_within}
 
 charged : (b : Bool) (premium : ℕ) → premium ≤ limit → cond b premium 0 ≤ limit
 charged true premium h = h

@@ -2,7 +2,7 @@
 use Rattle.std.proofs.Common.{◌≡◌, ℕ, ◌+◌, ◌*◌, ◌≤◌, ◌⊎◌, List, [], ◌∷◌, map, ℤ, pos, negsuc, ◌+ℤ◌, ◌*ℤ◌, sum, sym, refl, ap, ◌∙◌, subst, inl, inr, add-mul, arith}
 use borrow.Author.Differences.{ints}
 use Rattle.std.specs.Int.{saturate_to_bits}
-use Rattle.std.specs.List.{AllByRecursion as All}
+use Rattle.std.specs.List.{AllByRecursion}
 use Rattle.std.proofs.lemmas.List.Sums.{sum_by-cons}
 use Rattle.units.specs.Near.{Within}
 use Rattle.units.specs.Ranges.{million}
@@ -31,7 +31,7 @@ abbrev most : ℕ
 most = 5000000000000
 
 -- on a row that is no more than a whole nothing saturates; `before` is what the row has had so far
-pub weighted_is : (row : List ℕ) (xs : List ℤ) (before : ℕ) (so_far : ℤ) → before + sum row ≤ million → Within (before * most) so_far → All LawfulFigure xs → weighted so_far row xs ≡ so_far +ℤ products row xs
+pub weighted_is : (row : List ℕ) (xs : List ℤ) (before : ℕ) (so_far : ℤ) → before + sum row ≤ million → Within (before * most) so_far → AllByRecursion LawfulFigure xs → weighted so_far row xs ≡ so_far +ℤ products row xs
 weighted_is [] xs before so_far whole small each = omega (arith, ints)
 weighted_is (p ∷ ps) [] before so_far whole small each = omega (arith, ints)
 weighted_is (p ∷ ps) (x ∷ xs) before so_far whole small each =
@@ -52,6 +52,6 @@ pub products_map : (share : ℕ → ℕ) (f : ℕ → ℤ) (js : List ℕ) → p
 products_map share f [] = refl
 products_map share f (j ∷ js) = ap (λ z. pos (share j) *ℤ f j +ℤ z) (products_map share f js)
 
-pub all_map_every : {X Y : Type 0} (P : Y → Type 0) (f : X → Y) → ((x : X) → P (f x)) → (xs : List X) → All P (map f xs)
+pub all_map_every : {X Y : Type 0} (P : Y → Type 0) (f : X → Y) → ((x : X) → P (f x)) → (xs : List X) → AllByRecursion P (map f xs)
 all_map_every P f each [] = tt
 all_map_every P f each (x ∷ xs) = (each x, all_map_every P f each xs)

@@ -1,6 +1,5 @@
 pub mod Figures
 pub mod Means
 pub mod Operations
-pub mod Reserves
 pub mod Orders
-pub mod Rounded
+pub mod Reserves

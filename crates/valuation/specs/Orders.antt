@@ -5,9 +5,15 @@ use Rattle.std.specs.List.{AllZip}
 use Rattle.std.specs.Int.{saturate_to_bits}
 use Rattle.std.proofs.lemmas.Int.{ints}
 use Rattle.units.proofs.Whole.{times_le}
-use Rattle.valuation.specs.Means.{weighted, mean}
+use Rattle.units.proofs.Nearest.{to_nearest}
+use Rattle.valuation.specs.Means.{rounded_mean, rounded_discount, weighted, mean}
 use Rattle.valuation.specs.Operations.{Ordered}
-use Rattle.valuation.specs.Rounded.{rounded_mean_keeps, rounded_discount_keeps}
+
+pub rounded_mean_keeps : (a b : ℤ) → a ≤ℤ b → rounded_mean a ≤ℤ rounded_mean b
+rounded_mean_keeps = to_nearest.keeps_order
+
+pub rounded_discount_keeps : (a b : ℤ) → a ≤ℤ b → rounded_discount a ≤ℤ rounded_discount b
+rounded_discount_keeps = to_nearest.keeps_order
 
 pub saturated_keeps : (x y : ℤ) → x ≤ℤ y → saturate_to_bits 63 x ≤ℤ saturate_to_bits 63 y
 saturated_keeps x y h = grind (arith, ints)

@@ -1,7 +1,6 @@
 // What a life table answers as a basis.
 ghost use Rattle.basis.specs.LifeTables.{life_table};
-ghost use Rattle.std.proofs.Common.{arith};
-ghost use Rattle.std.proofs.lemmas.Bool.Decides.{nat_tests};
+ghost use Rattle.basis.specs.LifeLaw.{life_table_lawful};
 
 use super::LifeTable;
 use crate::Basis;
@@ -10,20 +9,7 @@ use units::MILLION;
 impl Basis for LifeTable {
     ghost meaning = { life_table };
 
-    ghost lawful = { λ s.
-        record {
-          least_states = omega arith;
-          most_states = omega arith;
-          least_years = omega (arith, s.deaths.ok.0);
-          most_years = omega (arith, s.deaths.ok.0);
-          least_factor = λ t. Prim.grind (arith, nat_tests);
-          most_factor = λ t. Prim.grind (arith, nat_tests);
-          row = λ i t h k. let share = s.shares t in Prim.grind (arith, nat_tests);
-          factor_after = λ t k. Prim.grind (arith, nat_tests);
-          share_after = λ i j t k. Prim.grind (arith, nat_tests);
-          share_from_outside = λ i j t k. Prim.grind (arith, nat_tests);
-          share_to_outside = λ i j t k. Prim.grind (arith, nat_tests);
-        } };
+    ghost lawful = { life_table_lawful };
 
     fn states(&self) -> usize {
         2

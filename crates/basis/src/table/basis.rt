@@ -1,11 +1,6 @@
 // What a table answers as a basis.
 ghost use Rattle.basis.specs.TransitionTables.{transition_table};
-ghost use Rattle.std.proofs.Common.{◌∙◌, arith};
-ghost use Rattle.std.specs.Prelude.{◌<◌, vec_len, slice_index};
-ghost use Rattle.std.proofs.Math.Arith.{digits_lt};
-ghost use Rattle.std.proofs.lemmas.Bool.Decides.{nat_tests};
-ghost use Rattle.units.proofs.Sums.{sum_by_counting_same};
-ghost use Rattle.basis.specs.TransitionColumns.{row_number, place};
+ghost use Rattle.basis.specs.TableLaw.{transition_table_lawful};
 
 use super::TransitionTable;
 use crate::Basis;
@@ -14,22 +9,7 @@ use units::MILLION;
 impl Basis for TransitionTable {
     ghost meaning = { transition_table };
 
-    ghost lawful = { λ s.
-        record {
-          least_states = omega arith;
-          most_states = omega arith;
-          least_years = omega (arith, s.factors.ok.0);
-          most_years = omega (arith, s.factors.ok.0);
-          least_factor = λ t. let h = s.least_factor t in Prim.grind (arith, nat_tests);
-          most_factor = λ t. let h = s.most_factor t in Prim.grind (arith, nat_tests);
-          row = λ i t h k.
-              let year : t < vec_len s.factors = omega (arith, s.factors.ok.0) in
-              sum_by_counting_same (λ j. (transition_table s).share i j t) (λ j. slice_index s.shares.items (place s.states i j t)) 0 s.states (λ j below. Prim.grind (arith, nat_tests)) ∙ s.rows (row_number s.states i t) (digits_lt year h);
-          factor_after = λ t k. Prim.grind (arith, nat_tests);
-          share_after = λ i j t k. Prim.grind (arith, nat_tests);
-          share_from_outside = λ i j t k. Prim.grind (arith, nat_tests);
-          share_to_outside = λ i j t k. Prim.grind (arith, nat_tests);
-        } };
+    ghost lawful = { transition_table_lawful };
 
     fn states(&self) -> usize {
         self.states

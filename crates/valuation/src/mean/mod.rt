@@ -1,7 +1,7 @@
 // The mean: figures are ticks, and a join is the mean of what follows.
 ghost use Rattle.std.specs.Prelude.{◌≡◌, ◌≤◌, pos, ◌+ℤ◌, ◌*ℤ◌, ◌≤ℤ◌};
 ghost use Rattle.std.specs.Int.{saturate_to_bits};
-ghost use Rattle.std.specs.List.{AllByRecursion as All};
+ghost use Rattle.std.specs.List.{AllByRecursion};
 ghost use Rattle.units.specs.Ranges.{million};
 ghost use Rattle.valuation.specs.Means.{rounded_mean, rounded_discount, mean, LawfulFigure, LawfulRow, products};
 ghost use Rattle.valuation.specs.Orders.{mean_ordered};
@@ -56,7 +56,7 @@ impl Valuation for Mean {
 
     fn join(&self, _state: usize, row: &[u32], following: &[i64]) -> i64
         ensures meaning { result ≡ mean.join _state row.now following.now }
-        ensures formula { LawfulRow row.now → All LawfulFigure following.now → result ≡ rounded_mean (products row.now following.now) }
+        ensures formula { LawfulRow row.now → AllByRecursion LawfulFigure following.now → result ≡ rounded_mean (products row.now following.now) }
     {
         let mut sum = 0i64;
         for (share, figure) in row.iter().zip(following.iter()) {

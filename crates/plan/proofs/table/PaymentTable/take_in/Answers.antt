@@ -1,7 +1,7 @@
 use Rattle.std.proofs.Common.{length, refl, ap, ◌∙◌, arith}
 use Rattle.std.proofs.lemmas.Result.{err_from_is_err_and}
 use Rattle.units.specs.Ranges.{limit}
-use Rattle.plan.specs.Entries.{kept_between, unfit}
+use Rattle.plan.proofs.Entries.{kept_between, unfit}
 use Rattle.plan.proofs.table.PaymentTable.take_in.Goals as goal
 
 pub returns-in_err-check : goal.returns-in_err-check

@@ -1,5 +1,5 @@
 use Rattle.std.proofs.Common.{◌/◌, ◌%◌, mod-lt, arith, rules}
-use Rattle.plan.specs.Entries.{first_at_move}
+use Rattle.plan.proofs.Entries.{first_at_move}
 use Rattle.plan.proofs.table.check.check_moves.Goals as goal
 
 pub returns-in-Some : goal.returns-in-Some

@@ -1,6 +1,6 @@
 use Rattle.std.proofs.Common.{◌≡◌, map, take}
 use Rattle.std.specs.List.{range_with_len}
-use Rattle.valuation.specs.Figures.{flow, Given}
+use Rattle.valuation.specs.Figures.{flow}
 use Rattle.valuation.proofs.sweep.Sweep.last_year.Given as goal
 
 abbrev pub invariant-loop-state : goal.invariant-loop-state

@@ -2,7 +2,7 @@ use Rattle.std.proofs.Common.{◌≡◌, get_or, pos, vec_items, ap, ◌∙◌, 
 use borrow.Author.Rules.{get_or_read}
 use Rattle.std.proofs.lemmas.Bool.Decides.{nat_tests}
 use Rattle.plan.specs.PaymentColumns.{place, entry}
-use Rattle.plan.specs.Entries.{bits_of_entry}
+use Rattle.plan.proofs.Entries.{bits_of_entry}
 use Rattle.plan.proofs.table.plan.PaymentTablePlan.due.Goals as goal
 
 pub returns-then-state-lt-MOST_STATES : goal.returns-then-state-lt-MOST_STATES

@@ -1,5 +1,5 @@
 -- Entries of the columns of a plan. Assumes nothing.
-use Rattle.std.specs.Prelude.{◌≡◌, ℕ, ◌/◌, ◌%◌, ◌<◌, ◌≤◌, List, length, ℤ, pos, negsuc, ◌≤ℤ◌, slice_index_or, unsigned_abs, refl}
+use Rattle.std.specs.Prelude.{◌≡◌, ℕ, ◌/◌, ◌%◌, ◌<◌, List, length, ℤ, pos, negsuc, ◌≤ℤ◌, slice_index_or, unsigned_abs, refl}
 use Rattle.std.proofs.Common.{sym, subst, ⊎_elim, div-add-mod', arith, of_z}
 use Rattle.std.proofs.lemmas.Int.{ints}
 use Rattle.std.specs.Int.{w64}
@@ -7,16 +7,12 @@ use Rattle.std.proofs.lemmas.List.{get_or_past}
 use Rattle.std.proofs.lemmas.Bool.Decides.{leb_tells}
 use Rattle.units.specs.Columns.{Between, AllBetween, FirstOutside}
 use Rattle.units.specs.declared.fault.Fault.{Fault}
-use Rattle.plan.specs.PaymentColumns.{place, move_place, Fit, Refuses, unfit_size, unfit_benefit, unfit_mark, unfit_move}
+use Rattle.plan.specs.PaymentColumns.{move_place, Fit, Refuses, unfit_size, unfit_benefit, unfit_mark, unfit_move}
 
 -- an entry that is not below 0 has the bits of its number
 pub bits_of_entry : (z : ℤ) → (pos 0) ≤ℤ z → of_z w64 z ≡ unsigned_abs z
 bits_of_entry (pos n) low = refl
 bits_of_entry (negsuc n) low = absurd (omega (arith, ints, low))
-
-pub most_entry : (z : ℤ) (high : ℕ) → (pos 0) ≤ℤ z → z ≤ℤ (pos high) → unsigned_abs z ≤ high
-most_entry (pos n) high low most = omega (arith, ints, most)
-most_entry (negsuc n) high low most = absurd (omega (arith, ints, low))
 
 -- what is kept of a column is in its range; past its end a list reads as 0
 pub kept_between : {kept column : List ℤ} (high : ℕ) → kept ≡ column → AllBetween (pos 0) (pos high) column → (p : ℕ) → Between (pos 0) (pos high) (slice_index_or kept p (pos 0))

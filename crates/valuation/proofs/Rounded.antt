@@ -1,5 +1,5 @@
 -- What is used of the rounding of means and of discounted amounts. Assumes nothing.
-use Rattle.std.specs.Prelude.{ℕ, ◌*◌, ℤ, ◌≤ℤ◌}
+use Rattle.std.specs.Prelude.{ℕ, ◌*◌, ℤ}
 use Rattle.std.proofs.Common.{arith}
 use Rattle.std.proofs.lemmas.Int.{ints}
 use Rattle.units.specs.Near.{Within}
@@ -12,12 +12,6 @@ nearest_within : (d : ℕ) (z : ℤ) → Within (1000000 * d) z → Within d (ne
 nearest_within d z h =
     let n = to_nearest.within_half z in
     record { low = omega (arith, ints, h.low, n.low, n.high); high = omega (arith, ints, h.high, n.low, n.high) }
-
-pub rounded_mean_keeps : (a b : ℤ) → a ≤ℤ b → rounded_mean a ≤ℤ rounded_mean b
-rounded_mean_keeps = to_nearest.keeps_order
-
-pub rounded_discount_keeps : (a b : ℤ) → a ≤ℤ b → rounded_discount a ≤ℤ rounded_discount b
-rounded_discount_keeps = to_nearest.keeps_order
 
 pub rounded_mean_within : (d : ℕ) (z : ℤ) → Within (1000000 * d) z → Within d (rounded_mean z)
 rounded_mean_within = nearest_within
