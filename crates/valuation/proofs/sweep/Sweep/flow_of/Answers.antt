@@ -1,4 +1,4 @@
-use Rattle.std.proofs.Common.{◌≡◌, ℕ, ◌<◌, true, ltb, pos, ◌-ℤ◌, sym, ◌∙◌, arith, w64, to_z, of_z, rules}
+use Rattle.std.proofs.Common.{◌≡◌, ℕ, ◌<◌, true, ltb, ℤ, pos, ◌-ℤ◌, sym, ◌∙◌, arith, rules}
 use Rattle.std.proofs.lemmas.Int.{ints}
 use Rattle.std.proofs.lemmas.Bool.Decides.{nat_tests}
 use Rattle.basis.specs.Transitions.{Transitions}
@@ -13,8 +13,10 @@ pub overflow_sub-result : goal.overflow_sub-result
 overflow_sub-result g c = let most = (g.met.P.Plan.bounded c.args.self.now.plan.now).most_benefit c.args.state c.args.year in search rules
 
 -- the flow where the premium is due
-charged : (c : Transitions) (p : Payments) (premium i t : ℕ) → t < c.years → p.due i t ≡ true → pos (p.benefit i t) -ℤ pos premium ≡ flow c p premium i t
-charged c p premium i t early due = let before : ltb t c.years ≡ true = grind (arith, nat_tests) in rw (before, due)
+charged : (c : Transitions) (p : Payments) (premium i t : ℕ) (z : ℤ) → z ≡ pos (p.benefit i t) -ℤ pos premium → t < c.years → true ≡ p.due i t → z ≡ flow c p premium i t
+charged c p premium i t z is early due =
+    let before : ltb t c.years ≡ true = grind (arith, nat_tests) in
+    is ∙ rw (before, sym due)
 
 pub returns-then-due : goal.returns-then-due
 returns-then-due g c =
@@ -23,6 +25,5 @@ returns-then-due g c =
     let most = (g.met.P.Plan.bounded c.args.self.now.plan.now).most_benefit c.args.state c.args.year in
     let paid = c.benefit-benefit.ensures in
     let charge = c.ticks.ensures.value in
-    let value : to_z w64 (of_z w64 (to_z w64 c.benefit-benefit.result -ℤ to_z w64 c.ticks.result)) ≡ pos (plan.benefit c.args.state c.args.year) -ℤ pos c.args.self.now.premium.ticks = omega (arith, ints) in
     let early : c.args.year < basis.years = omega (arith, c.years.ensures, c.if-year-years.true) in
-    value ∙ charged basis plan c.args.self.now.premium.ticks c.args.state c.args.year early (sym c.if-due.ensures)
+    charged basis plan c.args.self.now.premium.ticks c.args.state c.args.year _ (omega (arith, ints)) early c.if-due.ensures
