@@ -16,8 +16,11 @@ BY_HAND = {
     "round-discount": "rounded_discount",
     "sumZ": "int_sum_by",
 }
+# Arguments of definitions and of lemmas.
+ARGUMENTS = {"paying-years", "next-year"}
 # A field of a record may have the name of a method, or of a ghost field of a struct: it is only reached through its record.
 SHARED = {
+    "paying_years",
     "move_benefit",
     "least_factor",
     "most_factor",
@@ -58,7 +61,7 @@ def own_names():
 
 
 def main():
-    names = own_names()
+    names = own_names() | {name: snake(name) for name in ARGUMENTS}
     paths = files("*.rt", "*.antt", "*.edit")
     texts = {}
     for path in paths:

@@ -10,9 +10,9 @@ use Rattle.plan.specs.declared.annuity.Annuity.{Annuity}
 -- the amount is paid in one state in the years from `first` up to but not including `end`;
 -- the premium is due in state 0 in the paying years
 abbrev pub yearly : ℕ → ℕ → ℕ → ℕ → ℕ → Payments
-yearly amount state first end paying-years = record {
+yearly amount state first end paying_years = record {
   benefit = λ i t. cond (i == state && (nat_le first t && nat_lt t end)) amount 0;
-  due = λ i t. (i == 0) && nat_lt t paying-years;
+  due = λ i t. (i == 0) && nat_lt t paying_years;
   move_benefit = λ i j t. 0;
 }
 
@@ -20,24 +20,24 @@ abbrev pub annuity : Annuity → Payments
 annuity s = yearly s.amount s.state s.first s.end s.paying_years
 
 -- the annuity is of exactly this amount, state and years
-pub record Holds (s : Annuity) (amount : ℤ) (state first end paying-years : ℕ) : Type 0 where
+pub record Holds (s : Annuity) (amount : ℤ) (state first end paying_years : ℕ) : Type 0 where
   pub ticks : pos s.amount ≡ amount
   pub recipient : s.state ≡ state
   pub begins : s.first ≡ first
   pub ends : s.end ≡ end
-  pub paying : s.paying_years ≡ paying-years
+  pub paying : s.paying_years ≡ paying_years
 
-pub record FitYears (state first end paying-years : ℕ) : Type 0 where
+pub record FitYears (state first end paying_years : ℕ) : Type 0 where
   pub recipient : state ≤ 7
   pub order : first ≤ end
   pub few : end ≤ 120
-  pub paying : paying-years ≤ 120
+  pub paying : paying_years ≤ 120
 
-pub record Fit (amount : ℤ) (state first end paying-years : ℕ) : Type 0 where
-  pub years : FitYears state first end paying-years
+pub record Fit (amount : ℤ) (state first end paying_years : ℕ) : Type 0 where
+  pub years : FitYears state first end paying_years
   pub ticks : WithinLimit amount
 
 -- the first thing that is wrong: the state or the years, which have no entry of their own, and then the first benefit
-pub data Refuses (amount : ℤ) (state first end paying-years : ℕ) (fault : Fault) : Type 0 where
-  unfit_years : fault ≡ entry_fault 12 Plan 0 0 → (FitYears state first end paying-years → ⊥) → Refuses amount state first end paying-years fault
-  unfit_amount : fault ≡ entry_fault 12 Plan first state → FitYears state first end paying-years → (WithinLimit amount → ⊥) → Refuses amount state first end paying-years fault
+pub data Refuses (amount : ℤ) (state first end paying_years : ℕ) (fault : Fault) : Type 0 where
+  unfit_years : fault ≡ entry_fault 12 Plan 0 0 → (FitYears state first end paying_years → ⊥) → Refuses amount state first end paying_years fault
+  unfit_amount : fault ≡ entry_fault 12 Plan first state → FitYears state first end paying_years → (WithinLimit amount → ⊥) → Refuses amount state first end paying_years fault

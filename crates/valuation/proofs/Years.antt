@@ -15,8 +15,8 @@ module _ {F : Type 0} (v : Operations F) (c : Transitions) (p : Payments) (premi
   pub figures_late : (t : ℕ) (new : List F) → c.years ≤ t → new ≡ map (λ i. v.make (flow c p premium i t)) (moves c) → new ≡ figures_of v c p premium t
   figures_late t new late made = let none : c.years - t ≡ 0 = omega arith in made ∙ sym (ap (λ k. map (λ i. figure_with v c p premium k i t) (moves c)) none)
 
-  pub figures_earlier : (t next-year : ℕ) (after new : List F) → next-year ≡ t + 1 → t < c.years → after ≡ figures_of v c p premium next-year → Given c after (λ next. new ≡ map (λ i. figure_before v c p premium i t next) (moves c)) → new ≡ figures_of v c p premium t
-  figures_earlier t next-year after new follows early have made =
+  pub figures_earlier : (t next_year : ℕ) (after new : List F) → next_year ≡ t + 1 → t < c.years → after ≡ figures_of v c p premium next_year → Given c after (λ next. new ≡ map (λ i. figure_before v c p premium i t next) (moves c)) → new ≡ figures_of v c p premium t
+  figures_earlier t next_year after new follows early have made =
       let left : c.years - t ≡ suc (c.years - (t + 1)) = omega arith in
       made (λ j. figure v c p premium j (t + 1)) (have ∙ ap (figures_of v c p premium) follows)
       ∙ sym (ap (λ k. map (λ i. figure_with v c p premium k i t) (moves c)) left)
