@@ -9,8 +9,7 @@ use Rattle.units.specs.Sums.{int_sum_by}
 use Rattle.units.proofs.Distances.{within_pos, within_add, within_times}
 
 pub sum_by_same : {X : Type 0} (f g : X → ℕ) (xs : List X) → ((x : X) → f x ≡ g x) → sum_by f xs ≡ sum_by g xs
-sum_by_same f g [] same = refl
-sum_by_same f g (x ∷ xs) same = omega (arith, sum_by-cons f x xs, sum_by-cons g x xs, same x, sum_by_same f g xs same)
+sum_by_same f g xs same = ap (λ h. sum_by h xs) (λ u x. same x u)
 
 pub sum_by_none : {X : Type 0} (f : X → ℕ) (xs : List X) → ((x : X) → f x ≡ 0) → sum_by f xs ≡ 0
 sum_by_none f [] none = refl

@@ -1,5 +1,5 @@
 -- A fault in plain words. Assumes nothing.
-use Rattle.std.specs.Prelude.{ℕ, cond, List, ◌++◌, codes, decimal, ◌==◌}
+use Rattle.std.specs.Prelude.{ℕ, List, ◌++◌, codes, decimal}
 use Rattle.units.specs.declared.failure.Failure.{Failure}
 use Rattle.units.specs.declared.failure.Failure.TheVariants.{Refused, NoMemory}
 use Rattle.units.specs.declared.fault.Fault.{Fault}
@@ -7,6 +7,7 @@ use Rattle.units.specs.declared.fault.Layer.{Layer}
 use Rattle.units.specs.declared.fault.Layer.TheVariants.{Field, Sheet, Basis, Plan, Contract}
 use Rattle.units.specs.declared.fault.Place.{Place}
 use Rattle.units.specs.declared.fault.Place.TheVariants.{Text, Entry}
+use Rattle.units.specs.Rules.{rule_text}
 
 abbrev pub layer_text : Layer → List ℕ
 layer_text Field = codes "field"
@@ -18,15 +19,6 @@ layer_text Contract = codes "contract"
 abbrev pub place_text : Place → List ℕ
 place_text (Text line offset) = codes "line " ++ (decimal line ++ (codes ", offset " ++ decimal offset))
 place_text (Entry year state) = codes "year " ++ (decimal year ++ (codes ", state " ++ decimal state))
-
--- the rule that a number stands for
-abbrev pub rule_text : ℕ → List ℕ
-rule_text number =
-    cond (number == 9) (codes "the number of years or the length of a column is unfit")
-    (cond (number == 10) (codes "a factor is outside 1 to a million")
-    (cond (number == 11) (codes "a share is outside 0 to a million")
-    (cond (number == 12) (codes "the years of a plan are unfit or an amount is outside 0 to the limit")
-    (codes "a rule is broken"))))
 
 abbrev pub text_of_fault : Fault → List ℕ
 text_of_fault fault =

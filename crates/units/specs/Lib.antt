@@ -5,4 +5,5 @@ pub mod Francs
 pub mod Near
 pub mod Ranges
 pub mod Rounding
+pub mod Rules
 pub mod Sums

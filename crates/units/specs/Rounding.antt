@@ -1,7 +1,11 @@
 -- Rounding to whole ticks. Assumes nothing.
-use Rattle.std.specs.Prelude.{◌≡◌, ℤ, pos, ◌+ℤ◌, ◌*ℤ◌, ◌≤ℤ◌}
+use Rattle.std.specs.Prelude.{◌≡◌, ℕ, ◌/◌, ℤ, pos, ◌+ℤ◌, ◌*ℤ◌, ◌≤ℤ◌}
 use Rattle.std.specs.Int.{int_div_euclid}
 use Rattle.units.specs.Near.{Near}
+
+-- so many parts to the nearest whole, halves upwards: half a whole is added, and the quotient rounded down
+abbrev pub rounded : ℕ → ℤ → ℤ
+rounded parts a = int_div_euclid (a +ℤ pos (parts / 2)) (pos parts)
 
 -- millionths to the nearest whole, halves upwards: (a + 500,000) / 1,000,000, rounded down
 abbrev pub nearest : ℤ → ℤ

@@ -14,6 +14,7 @@ pub enum Failure {
     NoMemory,
 }
 
+// By hand: of what a derived `From` gives, a contract could say nothing.
 impl From<Fault> for Failure {
     ghost from_gives = { λ fault failure. failure ≡ Refused fault };
 

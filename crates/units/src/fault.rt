@@ -1,6 +1,9 @@
 // A refusal: what is wrong, who found it, and where.
 ghost use Rattle.std.specs.Prelude.{◌≡◌};
 ghost use Rattle.units.specs.Faults.{entry_fault};
+ghost use Rattle.units.specs.Rules.{rule_number, rule_layer};
+
+use crate::rule::Rule;
 
 // The part of the engine that found a fault.
 #[derive(Clone, Copy, PartialEq, Eq, Debug)]
@@ -21,13 +24,21 @@ pub enum Place {
 
 #[derive(Clone, Copy, PartialEq, Eq, Debug)]
 pub struct Fault {
+    // As it is printed. A `Rule` would be narrower: callers may make faults of any number.
     pub number: u8,
     pub layer: Layer,
     pub place: Place,
 }
 
 impl Fault {
-    // A fault at a year and a state.
+    // The breach of a rule at a year and a state, found by the part of the engine that checks it.
+    pub fn breach(rule: Rule, year: usize, state: usize) -> Fault
+        ensures { result ≡ entry_fault (rule_number rule) (rule_layer rule) year state }
+    {
+        Fault::at_entry(rule.number(), rule.layer(), year, state)
+    }
+
+    // A fault of any number at a year and a state.
     pub fn at_entry(number: u8, layer: Layer, year: usize, state: usize) -> Fault
         ensures { result ≡ entry_fault number layer year state }
     {

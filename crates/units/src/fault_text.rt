@@ -1,8 +1,10 @@
 // A fault in plain words.
 ghost use Rattle.std.specs.Prelude.{◌≡◌, Some};
-ghost use Rattle.units.specs.FaultTexts.{layer_text, place_text, rule_text, text_of_fault};
+ghost use Rattle.units.specs.FaultTexts.{layer_text, place_text, text_of_fault};
+ghost use Rattle.units.specs.Rules.{rule_text};
 
 use crate::fault::{Fault, Layer, Place};
+use crate::rule::Rule;
 use std::error::Error;
 use std::fmt;
 
@@ -31,16 +33,13 @@ impl fmt::Display for Place {
     }
 }
 
-// The rule that a number stands for, in plain words.
-fn rule(number: u8) -> &'static str
+// The words of the rule that a number stands for, or those for all other numbers.
+fn words(number: u8) -> &'static str
     ensures { result.now ≡ rule_text number }
 {
-    match number {
-        9 => "the number of years or the length of a column is unfit",
-        10 => "a factor is outside 1 to a million",
-        11 => "a share is outside 0 to a million",
-        12 => "the years of a plan are unfit or an amount is outside 0 to the limit",
-        _ => "a rule is broken",
+    match Rule::try_from(number) {
+        Ok(rule) => rule.words(),
+        Err(_) => "a rule is broken",
     }
 }
 
@@ -51,10 +50,10 @@ impl fmt::Display for Fault {
         let number = self.number;
         let layer = self.layer;
         let place = self.place;
-        let reason = rule(number);
+        let words = words(number);
         write!(
             f,
-            "refused with {number} by the {layer} at {place}: {reason}"
+            "refused with {number} by the {layer} at {place}: {words}"
         )
     }
 }

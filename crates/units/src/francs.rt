@@ -2,6 +2,7 @@
 ghost use Rattle.std.specs.Prelude.{◌≡◌, Some};
 ghost use Rattle.units.specs.Francs.{hundredths, francs};
 
+use crate::rounding::to_nearest;
 use std::fmt;
 
 // An amount in ticks, shown in francs.
@@ -14,12 +15,7 @@ pub struct Francs {
 fn hundredths_of(ticks: i64) -> i64
     ensures { result ≡ hundredths ticks }
 {
-    let whole = ticks.div_euclid(100);
-    if ticks.rem_euclid(100) < 50 {
-        whole
-    } else {
-        whole + 1
-    }
+    to_nearest::<100>(ticks)
 }
 
 impl fmt::Display for Francs {
@@ -29,12 +25,11 @@ impl fmt::Display for Francs {
         let hundredths = hundredths_of(self.ticks);
         let size = hundredths.unsigned_abs();
         let whole = size / 100;
-        let tens = size / 10 % 10;
-        let ones = size % 10;
+        let part = size % 100;
         if hundredths < 0 {
-            write!(f, "-{whole}.{tens}{ones}")
+            write!(f, "-{whole}.{part:02}")
         } else {
-            write!(f, "{whole}.{tens}{ones}")
+            write!(f, "{whole}.{part:02}")
         }
     }
 }

@@ -1,6 +1,7 @@
 // What all other crates count in: ticks, parts of a million, premiums, and the fault that every refusal is.
 #![tactic(auto)]
 
+pub mod amount;
 pub mod columns;
 pub mod failure;
 pub mod fault;
@@ -8,6 +9,7 @@ pub mod fault_text;
 pub mod francs;
 pub mod premium;
 pub mod rounding;
+pub mod rule;
 #[cfg(test)]
 mod tests;
 

@@ -1,8 +1,10 @@
 // Figures at the edges of the rules.
+use crate::amount::{Amount, OutsideLimit};
 use crate::failure::Failure;
 use crate::fault::{Fault, Layer};
 use crate::premium::Premium;
 use crate::rounding::nearest;
+use crate::rule::{Rule, UnknownRule};
 use std::test::Fail;
 
 #[test]
@@ -30,6 +32,35 @@ fn premiums_lie_from_nought_to_the_limit(rt: HostRuntime) {
     assert!(rt; Premium::new(0).is_some());
     assert!(rt; Premium::new(10_000_000_000).is_some());
     assert!(rt; Premium::new(10_000_000_001).is_none());
+}
+
+#[test]
+fn amounts_lie_from_nought_to_the_limit(rt: HostRuntime) -> Result<(), Fail> {
+    assert_eq!(rt; Amount::try_from(10_000_000_000)?.ticks(), 10_000_000_000);
+    for ticks in [-1, 10_000_000_001, i64::MIN, i64::MAX] {
+        assert_eq!(rt; Amount::try_from(ticks), Err(OutsideLimit(ticks)));
+    }
+    Ok(())
+}
+
+#[test]
+fn rules_go_by_their_numbers(rt: HostRuntime) -> Result<(), Fail> {
+    let cases = [
+        (9, Rule::Size, Layer::Basis),
+        (10, Rule::Factor, Layer::Basis),
+        (11, Rule::Share, Layer::Basis),
+        (12, Rule::Payment, Layer::Plan),
+    ];
+    for (number, rule, layer) in cases {
+        assert_eq!(rt; Rule::try_from(number), Ok(rule));
+        let fault = Fault::at_entry(number, layer, 7, 3);
+        assert_eq!(rt; Fault::breach(rule, 7, 3), fault);
+        let told = fault.to_string(rt.alloc())?;
+        assert!(rt; told.as_str().ends_with(rule.words()));
+    }
+    assert_eq!(rt; Rule::try_from(8), Err(UnknownRule(8)));
+    assert_eq!(rt; Rule::try_from(13), Err(UnknownRule(13)));
+    Ok(())
 }
 
 #[test]

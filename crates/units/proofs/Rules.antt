@@ -1,0 +1,14 @@
+-- The words of a number that stands for no rule. Assumes nothing.
+use Rattle.std.proofs.Common.{◌≡◌, ℕ, codes, arith}
+use Rattle.std.proofs.lemmas.Bool.Decides.{nat_tests}
+use Rattle.units.specs.Rules.{rule_number, rule_text}
+use Rattle.units.specs.declared.rule.Rule.{Rule}
+use Rattle.units.specs.declared.rule.Rule.TheVariants.{Size, Factor, Share, Payment}
+
+pub words_of_no_rule : (number : ℕ) → ((rule : Rule) → rule_number rule ≡ number → ⊥) → rule_text number ≡ codes "a rule is broken"
+words_of_no_rule number none =
+    let size = none Size in
+    let factor = none Factor in
+    let share = none Share in
+    let payment = none Payment in
+    grind (arith, nat_tests)

@@ -1,0 +1,33 @@
+-- The rules by their numbers: which part of the engine checks each, and its words. Assumes nothing.
+use Rattle.std.specs.Prelude.{◌≡◌, ℕ, cond, List, codes, ◌==◌, Result, MatchResult}
+use Rattle.units.specs.declared.fault.Layer.{Layer}
+use Rattle.units.specs.declared.fault.Layer.TheVariants.{Basis, Plan}
+use Rattle.units.specs.declared.rule.Rule.{Rule}
+use Rattle.units.specs.declared.rule.Rule.TheVariants.{Size, Factor, Share, Payment}
+use Rattle.units.specs.declared.rule.UnknownRule.{UnknownRule}
+
+abbrev pub rule_number : Rule → ℕ
+rule_number Size = 9
+rule_number Factor = 10
+rule_number Share = 11
+rule_number Payment = 12
+
+-- the part of the engine that checks a rule
+abbrev pub rule_layer : Rule → Layer
+rule_layer Size = Basis
+rule_layer Factor = Basis
+rule_layer Share = Basis
+rule_layer Payment = Plan
+
+-- the rule that a number stands for
+abbrev pub rule_text : ℕ → List ℕ
+rule_text number =
+    cond (number == 9) (codes "the number of years or the length of a column is unfit")
+    (cond (number == 10) (codes "a factor is outside 1 to a million")
+    (cond (number == 11) (codes "a share is outside 0 to a million")
+    (cond (number == 12) (codes "the years of a plan are unfit or an amount is outside 0 to the limit")
+    (codes "a rule is broken"))))
+
+-- the rule of a number, or that number back where it stands for no rule
+abbrev pub Numbered : ℕ → Result Rule UnknownRule → Type 0
+Numbered number result = MatchResult result (λ rule. rule_number rule ≡ number) (λ unknown. (unknown.0 ≡ number) × ((rule : Rule) → rule_number rule ≡ number → ⊥))

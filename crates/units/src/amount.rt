@@ -1,0 +1,63 @@
+// An amount of a plan, which lies from 0 to the limit.
+ghost use Rattle.std.specs.Prelude.{◌≡◌, ◌≤◌, pos, MatchOption, MatchResult, codes, Some};
+ghost use Rattle.units.specs.Ranges.{limit, WithinLimit};
+
+use crate::LIMIT;
+use std::error::Error;
+use std::fmt;
+
+#[derive(Clone, Copy, PartialEq, Eq, Debug)]
+pub struct Amount {
+    ticks: u64,
+    ghost range: { ticks ≤ limit },
+}
+
+impl Amount {
+    // The amount of so many ticks, where they lie in the range of an amount.
+    pub fn new(ticks: i64) -> Option<Amount>
+        ensures { MatchOption result (WithinLimit ticks → ⊥) (λ p. pos p.ticks ≡ ticks) }
+    {
+        Amount::try_from(ticks).ok()
+    }
+
+    // Nothing at all.
+    pub fn zero() -> Amount
+        ensures { result.ticks ≡ 0 }
+    {
+        Amount { ticks: 0 }
+    }
+
+    pub fn ticks(&self) -> u64
+        ensures value { result ≡ self.now.ticks }
+        ensures range { result ≤ limit }
+    {
+        self.ticks
+    }
+}
+
+// A number of ticks that no amount has.
+#[derive(Clone, Copy, PartialEq, Eq, Debug)]
+pub struct OutsideLimit(pub i64);
+
+impl TryFrom<i64> for Amount {
+    type Error = OutsideLimit;
+
+    ghost try_from_gives = { λ ticks result. MatchResult result (λ a. pos a.ticks ≡ ticks) (λ e. (e.0 ≡ ticks) × (WithinLimit ticks → ⊥)) };
+
+    fn try_from(ticks: i64) -> Result<Amount, OutsideLimit> {
+        match u64::try_from(ticks) {
+            Ok(ticks) if ticks <= LIMIT => Ok(Amount { ticks }),
+            _ => Err(OutsideLimit(ticks)),
+        }
+    }
+}
+
+impl fmt::Display for OutsideLimit {
+    ghost output = { λ _. Some (codes "an amount is outside 0 to the limit") };
+
+    fn fmt<W: fmt::Write>(&self, f: &mut fmt::Formatter<W>) -> fmt::Result {
+        f.write_str("an amount is outside 0 to the limit")
+    }
+}
+
+impl Error for OutsideLimit {}

@@ -1,0 +1,91 @@
+// The rules whose breach is told by a year and a state, each under the number that callers know it by.
+ghost use Rattle.std.specs.Prelude.{◌≡◌, Some, ◌++◌, codes, decimal};
+ghost use Rattle.units.specs.Rules.{rule_number, rule_layer, rule_text, Numbered};
+
+use crate::fault::Layer;
+use std::error::Error;
+use std::fmt;
+
+#[derive(Clone, Copy, PartialEq, Eq, Debug)]
+pub enum Rule {
+    // The numbers of states and years, and the lengths of columns, of a basis.
+    Size,
+    Factor,
+    Share,
+    // All that a plan is made of.
+    Payment,
+}
+
+impl Rule {
+    pub fn number(self) -> u8
+        ensures { result ≡ rule_number self }
+    {
+        match self {
+            Rule::Size => 9,
+            Rule::Factor => 10,
+            Rule::Share => 11,
+            Rule::Payment => 12,
+        }
+    }
+
+    // The part of the engine that checks the rule.
+    pub fn layer(self) -> Layer
+        ensures { result ≡ rule_layer self }
+    {
+        match self {
+            Rule::Size | Rule::Factor | Rule::Share => Layer::Basis,
+            Rule::Payment => Layer::Plan,
+        }
+    }
+
+    // What is wrong where the rule is broken, in plain words.
+    pub fn words(self) -> &'static str
+        ensures { result.now ≡ rule_text (rule_number self) }
+    {
+        match self {
+            Rule::Size => "the number of years or the length of a column is unfit",
+            Rule::Factor => "a factor is outside 1 to a million",
+            Rule::Share => "a share is outside 0 to a million",
+            Rule::Payment => "the years of a plan are unfit or an amount is outside 0 to the limit",
+        }
+    }
+}
+
+// A number that no rule here goes by.
+#[derive(Clone, Copy, PartialEq, Eq, Debug)]
+pub struct UnknownRule(pub u8);
+
+impl TryFrom<u8> for Rule {
+    type Error = UnknownRule;
+
+    ghost try_from_gives = { Numbered };
+
+    fn try_from(number: u8) -> Result<Rule, UnknownRule> {
+        match number {
+            9 => Ok(Rule::Size),
+            10 => Ok(Rule::Factor),
+            11 => Ok(Rule::Share),
+            12 => Ok(Rule::Payment),
+            _ => Err(UnknownRule(number)),
+        }
+    }
+}
+
+impl fmt::Display for Rule {
+    ghost output = { λ x. Some (rule_text (rule_number x)) };
+
+    fn fmt<W: fmt::Write>(&self, f: &mut fmt::Formatter<W>) -> fmt::Result {
+        f.write_str(self.words())
+    }
+}
+
+impl fmt::Display for UnknownRule {
+    ghost output = { λ x. Some (codes "no rule goes by " ++ decimal x.0) };
+
+    fn fmt<W: fmt::Write>(&self, f: &mut fmt::Formatter<W>) -> fmt::Result {
+        let number = self.0;
+        write!(f, "no rule goes by {number}")
+    }
+}
+
+impl Error for UnknownRule {}
