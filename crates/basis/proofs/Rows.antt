@@ -3,6 +3,7 @@ use Rattle.std.proofs.Common.{◌≡◌, ℕ, zero, suc, ◌+◌, ◌*◌, ◌/�
 use lib.Arith.{digits_lt}
 use borrow.Author.Differences.{ints}
 use Rattle.std.specs.List.{range_with_len}
+use Rattle.std.proofs.Math.Nat.{mul-div_cancel}
 use Rattle.std.proofs.lemmas.Simd.{length-chunk, get_or-chunk}
 use Rattle.std.proofs.lemmas.List.{take-map, drop-map, drop_more}
 use Rattle.std.proofs.lemmas.List.Sums.{sum_by-cons}
@@ -12,6 +13,10 @@ use Rattle.units.specs.Sums.{int_sum_by}
 use Rattle.units.specs.declared.fault.Fault.{Fault}
 use Rattle.units.proofs.Sums.{int_sum_by_pos}
 use Rattle.basis.specs.TransitionColumns.{row_number, place, row, LawfulRow, LawfulBelow, LawfulRows, Fit, FirstUnlawful, Refuses, unfit_size, unfit_factor, unfit_row}
+
+-- how many rows a column of n years has
+pub row_count : (m n : ℕ) (shares : List ℤ) → 1 ≤ m → length shares ≡ n * m * m → length shares / m ≡ n * m
+row_count m n shares some places = ap (λ l. l / m) places ∙ mul-div_cancel (n * m) some
 
 -- a row ends where the column ends, or before
 pub row_ends : (r rows m : ℕ) → r < rows → r * m + m ≤ rows * m

@@ -5,22 +5,22 @@ use crate::shift::AgeShift;
 use std::test::Fail;
 use units::fault::{Fault, Layer};
 
-fn refused(number: u8, year: usize) -> Result<(), Fault> {
-    Err(Fault::at_entry(number, Layer::Basis, year, 0))
+pub(crate) fn refused(number: u8, year: usize, state: usize) -> Result<(), Fault> {
+    Err(Fault::at_entry(number, Layer::Basis, year, state))
 }
 
 #[test]
 fn takes_in_what_is_fit(rt: HostRuntime) -> Result<(), Fail> {
     let mut table = LifeTable::new(rt.alloc())?;
-    assert_eq!(rt; table.take_in(&[], 1), refused(9, 0));
-    assert_eq!(rt; table.take_in(&[0; 121], 0), refused(9, 0));
-    assert_eq!(rt; table.take_in(&[0, -1], 0), refused(10, 0));
-    assert_eq!(rt; table.take_in(&[0], 1_000_001), refused(10, 0));
+    assert_eq!(rt; table.take_in(&[], 1), refused(9, 0, 0));
+    assert_eq!(rt; table.take_in(&[0; 121], 0), refused(9, 0, 0));
+    assert_eq!(rt; table.take_in(&[0, -1], 0), refused(10, 0, 0));
+    assert_eq!(rt; table.take_in(&[0], 1_000_001), refused(10, 0, 0));
     assert_eq!(rt;
         table.take_in(&[0, 1_000_000, -1, 2_000_000], 1),
-        refused(11, 2)
+        refused(11, 2, 0)
     );
-    assert_eq!(rt; table.take_in(&[1_000_001], 1_000_000), refused(11, 0));
+    assert_eq!(rt; table.take_in(&[1_000_001], 1_000_000), refused(11, 0, 0));
     assert_eq!(rt; table.take_in(&[1_000_000, 0], 1), Ok(()));
     assert_eq!(rt; table.take_in(&[0; 120], 1_000_000), Ok(()));
     Ok(())

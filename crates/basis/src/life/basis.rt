@@ -28,13 +28,10 @@ impl Basis for LifeTable {
     }
 
     fn share(&self, from: usize, to: usize, year: usize) -> u32 {
-        if year >= self.deaths.len() {
-            return 0;
-        }
-        match (from, to) {
-            (0, 0) => MILLION - self.deaths[year],
-            (0, 1) => self.deaths[year],
-            (1, 1) => MILLION,
+        match (from, to, self.deaths.get(year)) {
+            (0, 0, Some(dead)) => MILLION - *dead,
+            (0, 1, Some(dead)) => *dead,
+            (1, 1, Some(_)) => MILLION,
             _ => 0,
         }
     }

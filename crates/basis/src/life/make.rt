@@ -8,20 +8,21 @@ use crate::fill::refill;
 use std::alloc::{AllocError, Global};
 use units::MILLION;
 use units::columns::first_outside;
-use units::fault::{Fault, Layer};
+use units::fault::Fault;
+use units::rule::Rule;
 
 // Whether a table can hold the column and the factor, and otherwise what is first wrong with them.
 fn check(deaths: &[i64], factor: i64) -> Result<(), Fault>
     ensures { MatchResult result (λ _. Fit deaths.now factor) (λ fault. Refuses deaths.now factor fault) }
 {
     if deaths.is_empty() || deaths.len() > MOST_YEARS {
-        return Err(Fault::at_entry(9, Layer::Basis, 0, 0));
+        return Err(Fault::breach(Rule::Size, 0, 0));
     }
     if factor < 1 || factor > MILLION as i64 {
-        return Err(Fault::at_entry(10, Layer::Basis, 0, 0));
+        return Err(Fault::breach(Rule::Factor, 0, 0));
     }
     match first_outside(deaths, 0, MILLION as i64) {
-        Some(year) => Err(Fault::at_entry(11, Layer::Basis, year, 0)),
+        Some(year) => Err(Fault::breach(Rule::Share, year, 0)),
         None => Ok(()),
     }
 }

@@ -20,10 +20,9 @@ impl Basis for TransitionTable {
     }
 
     fn factor(&self, year: usize) -> u32 {
-        if year < self.factors.len() {
-            self.factors[year]
-        } else {
-            MILLION
+        match self.factors.get(year) {
+            Some(factor) => *factor,
+            None => MILLION,
         }
     }
 

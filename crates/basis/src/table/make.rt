@@ -5,7 +5,7 @@ ghost use Rattle.basis.specs.TransitionColumns.{Fit, Refuses};
 ghost use Rattle.basis.specs.TransitionTables.{Holds};
 
 use super::TransitionTable;
-use super::check::check;
+use super::check::Columns;
 use crate::fill::refill;
 use std::alloc::{AllocError, Global};
 use units::fault::Fault;
@@ -37,7 +37,13 @@ impl TransitionTable {
     ) -> Result<(), Fault>
         ensures { MatchResult result (λ _. Fit states years factors.now shares.now × Holds self.new states factors.now shares.now) (λ fault. (Fit states years factors.now shares.now → ⊥) × Refuses states years factors.now shares.now fault × (self.new ≡ self.old)) }
     {
-        check(states, years, factors, shares)?;
+        let columns = Columns {
+            states,
+            years,
+            factors,
+            shares,
+        };
+        columns.check()?;
         refill(&mut self.factors, factors);
         refill(&mut self.shares, shares);
         self.states = states;

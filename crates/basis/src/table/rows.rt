@@ -1,5 +1,5 @@
 // The check of the shares, row by row.
-ghost use Rattle.std.specs.Prelude.{◌≡◌, ◌*◌, ◌<◌, ◌≤◌, true, false, length, MatchOption};
+ghost use Rattle.std.specs.Prelude.{◌≡◌, ◌/◌, ◌<◌, ◌≤◌, true, false, length, MatchOption};
 ghost use Rattle.basis.specs.TransitionColumns.{LawfulRow, LawfulBelow, row};
 
 use units::MILLION;
@@ -21,16 +21,14 @@ fn is_lawful(shares: &[i64]) -> bool
 }
 
 // The number of the first row that is unlawful.
-pub(super) fn first_unlawful(shares: &[i64], states: usize, rows: usize) -> Option<usize>
+pub(super) fn first_unlawful(shares: &[i64], states: usize) -> Option<usize>
+    requires some { 0 < states }
     requires few { states ≤ 8 }
-    requires places { length shares.now ≡ rows * states }
-    ensures { MatchOption result (LawfulBelow states shares.now rows) (λ found. (found < rows) × (LawfulRow (row states shares.now found) → ⊥) × LawfulBelow states shares.now found) }
+    ensures { MatchOption result (LawfulBelow states shares.now (length shares.now / states)) (λ found. (found < length shares.now / states) × (LawfulRow (row states shares.now found) → ⊥) × LawfulBelow states shares.now found) }
 {
-    for row in 0..rows {
-        let start = row * states;
-        if !is_lawful(&shares[start..start + states]) {
-            return Some(row);
-        }
-    }
-    None
+    shares.chunks_exact(states).position(
+        |row: &[i64]| -> bool
+            requires { length row.now ≤ 8 }
+        { !is_lawful(row) },
+    )
 }

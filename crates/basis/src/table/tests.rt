@@ -1,8 +1,8 @@
 // A table at the edges of its rules.
 use super::TransitionTable;
 use crate::Basis;
+use crate::tests::refused;
 use std::test::Fail;
-use units::fault::{Fault, Layer};
 
 // Three states over two years: active, disabled, dead.
 const FACTORS: [i64; 2] = [970_000, 960_000];
@@ -11,10 +11,6 @@ const SHARES: [i64; 18] = [
     900_000, 70_000, 30_000, 200_000, 750_000, 50_000, 0, 0, 1_000_000, 880_000, 80_000, 40_000,
     150_000, 790_000, 60_000, 0, 0, 1_000_000,
 ];
-
-fn refused(number: u8, year: usize, state: usize) -> Result<(), Fault> {
-    Err(Fault::at_entry(number, Layer::Basis, year, state))
-}
 
 #[test]
 fn refuses_unfit_numbers_and_lengths(rt: HostRuntime) -> Result<(), Fail> {
@@ -138,10 +134,7 @@ fn reads_each_share_at_its_place(rt: HostRuntime) -> Result<(), Fail> {
 #[test]
 fn takes_in_eight_states_and_120_years(rt: HostRuntime) -> Result<(), Fail> {
     let mut table = TransitionTable::new(rt.alloc())?;
-    let mut shares = [0; 7_680];
-    for row in 0..960_usize {
-        shares[row * 8] = 1_000_000;
-    }
+    let shares = [1_000_000, 0, 0, 0, 0, 0, 0, 0].repeat(rt.alloc(), 960)?;
     assert_eq!(rt; table.take_in(8, 120, &[1; 120], &shares), Ok(()));
     assert_eq!(rt;
         (

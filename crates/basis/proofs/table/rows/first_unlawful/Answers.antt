@@ -1,9 +1,13 @@
-use Rattle.std.proofs.Common.{rules}
-use Rattle.basis.proofs.Rows.{row_ends}
+use Rattle.std.proofs.Common.{◌≡◌, ap, ◌∙◌, refl, arith, rules}
+use Rattle.std.specs.Slice.Iter.{chunks_exact_size, chunks_exact_rest}
+use Rattle.basis.proofs.Chunks.{first_row}
 use Rattle.basis.proofs.table.rows.first_unlawful.Goals as goal
 
-pub offset_bounds-shares-start : goal.offset_bounds-shares-start
-offset_bounds-shares-start c = let ends = row_ends c.loop-row.row c.args.rows c.args.states c.loop-row-test.true in search rules
-
-pub slice_bounds-is_lawful-end : goal.slice_bounds-is_lawful-end
-slice_bounds-is_lawful-end c = let ends = row_ends c.loop-row.row c.args.rows c.args.states c.loop-row-test.true in search rules
+pub returns : goal.returns
+returns c =
+    let run = c.position.ensures.runs in
+    let size : chunks_exact_size run.0.from ≡ c.args.states = ap chunks_exact_size run.1 ∙ c.chunks_exact.ensures.size in
+    let rest : chunks_exact_rest run.0.from ≡ c.args.shares.now = ap chunks_exact_rest run.1 ∙ c.chunks_exact.ensures.rest in
+    let run_of_chunks = c.chunks_exact.ensures.runs run.0 run.0.seen in
+    let chunks = rw (size, rest) at run_of_chunks in
+    first_row run.0 c.args.states c.args.shares.now (chunks c.requires.some) _ _ (λ a r f h. refl) (λ x h. search rules) (λ x h. search rules) c.position.result c.requires.some run.2
