@@ -1,6 +1,6 @@
 -- The rows of a column of shares are its chunks. Assumes nothing.
 use Rattle.std.specs.Prelude.{Option, Some, None, IsTrue, option_map, IsSomeAnd, IfSome, MatchOption}
-use Rattle.std.proofs.Common.{◌≡◌, ℕ, ◌+◌, ◌*◌, ◌/◌, ◌<◌, ◌≤◌, Bool, true, false, List, [], ◌∷◌, length, slice_index_or, take, drop, ℤ, Bor, subst, arith, rules}
+use Rattle.std.proofs.Common.{◌≡◌, ℕ, ◌+◌, ◌*◌, ◌/◌, ◌<◌, ◌≤◌, Bool, true, false, List, [], ◌∷◌, length, slice_index_or, ℤ, Bor, subst, arith, rules}
 use Rattle.std.specs.Iterator.Runs.{Run, AllItemsBelow, AllItemsGive, IsFirstToGive, CallKeepsClosure, ItemsMapToExactChunks}
 use denote.Param.Members.{Mut, Called}
 use Rattle.std.proofs.Math.Nat.{le-div_iff_mul-le}

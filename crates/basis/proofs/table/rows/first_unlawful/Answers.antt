@@ -1,4 +1,4 @@
-use Rattle.std.proofs.Common.{◌≡◌, ap, ◌∙◌, refl, arith, rules}
+use Rattle.std.proofs.Common.{◌≡◌, ap, ◌∙◌, refl, rules}
 use Rattle.std.specs.Slice.Iter.{chunks_exact_size, chunks_exact_rest}
 use Rattle.basis.proofs.Chunks.{first_row}
 use Rattle.basis.proofs.table.rows.first_unlawful.Goals as goal

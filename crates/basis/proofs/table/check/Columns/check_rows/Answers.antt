@@ -1,4 +1,4 @@
-use Rattle.std.proofs.Common.{◌≡◌, ◌*◌, ◌/◌, ◌%◌, ◌<◌, ◌≤◌, length, subst, arith, rules}
+use Rattle.std.proofs.Common.{◌/◌, ◌%◌, ◌≤◌, subst, arith, rules}
 use Rattle.basis.specs.TransitionColumns.{LawfulBelow}
 use Rattle.basis.proofs.Rows.{row_count, rows_by_state, first_unlawful_lem}
 use Rattle.basis.proofs.table.check.Columns.check_rows.Goals as goal
