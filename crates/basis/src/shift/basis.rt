@@ -1,5 +1,5 @@
 // What an age shift answers as a basis.
-ghost use Rattle.std.specs.Prelude.{◌≡◌, ◌-◌};
+ghost use Rattle.std.specs.Prelude.{◌≡◌, ◌+◌, ◌-◌, ◌<◌, ◌≤◌, MatchOption};
 ghost use Rattle.basis.specs.Shifts.{first_year, shifted};
 ghost use Rattle.basis.specs.Later.{shifted_lawful};
 
@@ -27,6 +27,14 @@ impl<B: Basis> AgeShift<B> {
     {
         self.by.min(self.below.years() - 1)
     }
+
+    // The year below that is a year here, where there is such a year.
+    fn year_below(&self, year: usize) -> Option<usize>
+        ensures { MatchOption result ((B.Basis.meaning self.now.below).years ≤ year + first_year (B.Basis.meaning self.now.below) self.now.by) (λ t. (t ≡ year + first_year (B.Basis.meaning self.now.below) self.now.by) × (t < (B.Basis.meaning self.now.below).years)) }
+    {
+        year.checked_add(self.first())
+            .filter(|t| *t < self.below.years())
+    }
 }
 
 impl<B: Basis> Basis for AgeShift<B> {
@@ -43,18 +51,16 @@ impl<B: Basis> Basis for AgeShift<B> {
     }
 
     fn factor(&self, year: usize) -> u32 {
-        if year < self.years() {
-            self.below.factor(year + self.first())
-        } else {
-            MILLION
+        match self.year_below(year) {
+            Some(t) => self.below.factor(t),
+            None => MILLION,
         }
     }
 
     fn share(&self, from: usize, to: usize, year: usize) -> u32 {
-        if year < self.years() {
-            self.below.share(from, to, year + self.first())
-        } else {
-            0
+        match self.year_below(year) {
+            Some(t) => self.below.share(from, to, t),
+            None => 0,
         }
     }
 }
