@@ -12,7 +12,7 @@ use Rattle.units.specs.Ranges.{million}
 use Rattle.units.specs.Sums.{int_sum_by}
 use Rattle.units.specs.declared.fault.Fault.{Fault}
 use Rattle.units.proofs.Sums.{int_sum_by_pos}
-use Rattle.basis.specs.TransitionColumns.{row_number, place, row, LawfulRow, LawfulBelow, LawfulRows, Fit, FirstUnlawful, Refuses, unfit_size, unfit_factor, unfit_row}
+use Rattle.basis.specs.TransitionColumns.{row_number, row, LawfulRow, LawfulBelow, LawfulRows, Fit, FirstUnlawful, Refuses, unfit_size, unfit_factor, unfit_row}
 
 -- how many rows a column of n years has
 pub row_count : (m n : ℕ) (shares : List ℤ) → 1 ≤ m → length shares ≡ n * m * m → length shares / m ≡ n * m
@@ -21,9 +21,6 @@ row_count m n shares some places = ap (λ l. l / m) places ∙ mul-div_cancel (n
 -- a row ends where the column ends, or before
 pub row_ends : (r rows m : ℕ) → r < rows → r * m + m ≤ rows * m
 row_ends r rows m below = omega (arith, mul-le-mul_right m below, add-mul r 1 m)
-
-pub place_inside : {m n i j t : ℕ} → t < n → i < m → j < m → place m i j t < n * m * m
-place_inside year from to = digits_lt (digits_lt year from) to
 
 pub most_places : (m n : ℕ) → m ≤ 8 → n ≤ 120 → n * m * m ≤ 7680
 most_places m n states years =

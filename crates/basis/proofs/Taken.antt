@@ -1,17 +1,12 @@
 -- Taking a column in. Assumes nothing.
-use Rattle.std.proofs.Common.{◌≡◌, ℕ, ◌+◌, ◌<◌, ◌≤◌, List, [], ◌∷◌, ◌++◌, map, length, get_or, take, ℤ, pos, sym, ap, ◌∙◌, ⊎_elim, arith}
+use Rattle.std.proofs.Common.{◌≡◌, ℕ, ◌<◌, ◌≤◌, List, map, length, get_or, ℤ, pos, sym, ap, ◌∙◌, ⊎_elim, arith}
 use borrow.Author.Differences.{ints}
-use Rattle.std.proofs.lemmas.List.{map-append, take_more, get_or-map, get_or_past, length-map}
+use Rattle.std.proofs.lemmas.List.{get_or-map, get_or_past, length-map}
 use Rattle.std.proofs.lemmas.Bool.Decides.{leb_tells}
 use Rattle.units.specs.Ranges.{million}
 use Rattle.units.specs.declared.fault.Fault.{Fault}
 use Rattle.units.specs.Columns.{AllBetween}
 use Rattle.basis.specs.LifeTables.{Fit, Refuses, unfit_length, unfit_factor, unfit_share}
-
--- one entry more
-pub filled_more : (xs : List ℕ) (column : List ℤ) (i x : ℕ) → i < length column → pos x ≡ get_or column i (pos 0) → map pos xs ≡ take i column → map pos (xs ++ x ∷ []) ≡ take (i + 1) column
-filled_more xs column i x inside is so =
-    map-append pos xs (x ∷ []) ∙ ap (λ ys. ys ++ pos x ∷ []) so ∙ ap (λ z. take i column ++ z ∷ []) is ∙ sym (take_more column i (pos 0) inside)
 
 -- what holds of a column holds of what is filled from it
 pub kept_between : (xs : List ℕ) (column : List ℤ) (low high : ℕ) → map pos xs ≡ column → AllBetween (pos low) (pos high) column → (t : ℕ) → t < length xs → (low ≤ get_or xs t 0) × (get_or xs t 0 ≤ high)

@@ -4,7 +4,6 @@
 mod premiums;
 mod swiss_men;
 
-use anyhow::anyhow;
 use basis::life::LifeTable;
 use basis::shift::AgeShift;
 use plan::endowment::Endowment;
@@ -62,9 +61,7 @@ fn print_reserves(rt: &HostRuntime, lives: &mut AgeShift<LifeTable>) -> anyhow::
     println!(rt; "year     reserve")?;
     lives.shift_to(AGE);
     let plan = Endowment::new(SUM, TERM, TERM)?;
-    let Some(premium) = Premium::new(PREMIUM) else {
-        return Err(anyhow!("the premium is out of range"));
-    };
+    let premium = Premium::try_from(PREMIUM)?;
     for year in 0..=TERM {
         let ticks = reserve(lives, &plan, premium, 0, year);
         let text = Francs { ticks }.to_string(rt.alloc())?;

@@ -4,7 +4,6 @@
 mod capital;
 mod disability;
 
-use anyhow::anyhow;
 use basis::Basis;
 use basis::table::TransitionTable;
 use capital::pension_with_capital;
@@ -54,9 +53,7 @@ fn print_reserves<P: Plan>(
     println!(rt; "yearly premium of {text} francs while active")?;
     println!(rt; "")?;
     println!(rt; "year      active    disabled        dead")?;
-    let Some(premium) = Premium::new(ticks) else {
-        return Err(anyhow!("the premium is out of range"));
-    };
+    let premium = Premium::try_from(ticks)?;
     for year in 0..=YEARS {
         print_year(rt, basis, plan, premium, year)?;
     }
