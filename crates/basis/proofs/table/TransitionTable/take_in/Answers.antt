@@ -1,9 +1,16 @@
-use Rattle.std.proofs.Common.{◌≡◌, ℕ, ◌*◌, ◌<◌, ◌≤◌, length, pos, vec_items, vec_len, sym, ap, ◌∙◌, arith}
+use Rattle.std.proofs.Common.{◌≡◌, ℕ, ◌*◌, ◌<◌, ◌≤◌, length, pos, vec_items, vec_len, sym, refl, ap, ◌∙◌, arith}
 use Rattle.std.proofs.lemmas.List.{length-map}
+use Rattle.std.proofs.lemmas.Result.{err_from_is_err_and}
 use Rattle.units.specs.Ranges.{million}
-use Rattle.basis.proofs.Rows.{fit_entries, most_places, rows_by_number, row_ends, whole_row}
+use Rattle.basis.proofs.Rows.{unfit, fit_entries, most_places, rows_by_number, row_ends, whole_row}
 use Rattle.basis.proofs.Taken.{kept_between}
 use Rattle.basis.proofs.table.TransitionTable.take_in.Goals as goal
+
+pub returns-in_err-check : goal.returns-in_err-check
+returns-in_err-check c =
+    let p = err_from_is_err_and c.from_residual.result c.from_residual.ensures.1 in
+    let refuses = c.in_err-check.ensures in
+    rw (p.1, p.2) (unfit _ _ _ _ _ refuses, refuses, refl)
 
 pub refill-requires-2 : goal.refill-requires-2
 refill-requires-2 c =

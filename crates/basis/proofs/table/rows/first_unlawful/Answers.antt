@@ -10,4 +10,5 @@ returns c =
     let rest : chunks_exact_rest run.0.from ≡ c.args.shares.now = ap chunks_exact_rest run.1 ∙ c.chunks_exact.ensures.rest in
     let run_of_chunks = c.chunks_exact.ensures.runs run.0 run.0.seen in
     let chunks = rw (size, rest) at run_of_chunks in
-    first_row run.0 c.args.states c.args.shares.now (chunks c.requires.some) _ _ (λ a r f h. refl) (λ x h. search rules) (λ x h. search rules) c.position.result c.requires.some run.2
+    let found = first_row run.0 c.args.states c.args.shares.now (chunks c.requires.some) _ _ (λ a r f h. refl) (λ x h. search rules) (λ x h. search rules) c.position.result c.requires.some run.2 in
+    search rules
