@@ -17,11 +17,11 @@ yearly amount state first end paying_years = record {
 }
 
 abbrev pub annuity : Annuity → Payments
-annuity s = yearly s.amount s.state s.first s.end s.paying_years
+annuity s = yearly s.amount.ticks s.state s.first s.end s.paying_years
 
 -- the annuity is of exactly this amount, state and years
 pub record Holds (s : Annuity) (amount : ℤ) (state first end paying_years : ℕ) : Type 0 where
-  pub ticks : pos s.amount ≡ amount
+  pub ticks : pos s.amount.ticks ≡ amount
   pub recipient : s.state ≡ state
   pub begins : s.first ≡ first
   pub ends : s.end ≡ end

@@ -19,9 +19,6 @@ most_entry (negsuc n) high low most = absurd (omega (arith, ints, low))
 
 pub endowment_bounded : (s : Endowment) → InRange (endowment s)
 endowment_bounded s =
-    let sum = s.amount in
-    let term = s.few in
-    let paying = s.paying in
     record {
       most_benefit = λ i t. grind (arith, nat_tests);
       most_move_benefit = λ i j t. grind (arith, nat_tests);
@@ -36,10 +33,6 @@ endowment_bounded s =
 
 pub annuity_bounded : (s : Annuity) → InRange (annuity s)
 annuity_bounded s =
-    let amount = s.ticks in
-    let state = s.recipient in
-    let end = s.few in
-    let paying = s.paying in
     record {
       most_benefit = λ i t. grind (arith, nat_tests);
       most_move_benefit = λ i j t. grind (arith, nat_tests);

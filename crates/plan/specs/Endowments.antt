@@ -17,11 +17,11 @@ endows sum term paying_years = record {
 }
 
 abbrev pub endowment : Endowment → Payments
-endowment s = endows s.sum s.term s.paying_years
+endowment s = endows s.sum.ticks s.term s.paying_years
 
 -- the endowment is of exactly this sum, term and number of paying years
 pub record Holds (s : Endowment) (sum : ℤ) (term paying_years : ℕ) : Type 0 where
-  pub amount : pos s.sum ≡ sum
+  pub amount : pos s.sum.ticks ≡ sum
   pub years : s.term ≡ term
   pub paying : s.paying_years ≡ paying_years
 

@@ -3,8 +3,10 @@ ghost use Rattle.std.specs.Result.{MatchResult};
 ghost use Rattle.plan.specs.Annuities.{Holds, Fit, Refuses};
 
 use super::Annuity;
-use units::fault::{Fault, Layer};
-use units::{LIMIT, MOST_STATES, MOST_YEARS};
+use units::amount::Amount;
+use units::fault::Fault;
+use units::rule::Rule;
+use units::{MOST_STATES, MOST_YEARS};
 
 impl Annuity {
     // An annuity of an amount in ticks in a state of 0 to 7, in the years from `first` up to but not including `end`,
@@ -19,13 +21,11 @@ impl Annuity {
         ensures { MatchResult result (λ s. Fit amount state first end paying_years × Holds s amount state first end paying_years) (λ fault. (Fit amount state first end paying_years → ⊥) × Refuses amount state first end paying_years fault) }
     {
         if state >= MOST_STATES || first > end || end > MOST_YEARS || paying_years > MOST_YEARS {
-            return Err(Fault::at_entry(12, Layer::Plan, 0, 0));
+            return Err(Fault::breach(Rule::Payment, 0, 0));
         }
-        if amount < 0 || amount > LIMIT as i64 {
-            return Err(Fault::at_entry(12, Layer::Plan, first, state));
-        }
+        let amount = Amount::new(amount).ok_or(Fault::breach(Rule::Payment, first, state))?;
         Ok(Annuity {
-            amount: amount as u64,
+            amount,
             state,
             first,
             end,

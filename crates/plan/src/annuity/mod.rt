@@ -1,22 +1,22 @@
 // The annuity: an amount in each of some years that are spent in one state.
 ghost use Rattle.std.specs.Prelude.{◌≤◌};
-ghost use Rattle.units.specs.Ranges.{limit};
 
 mod make;
 mod plan;
 #[cfg(test)]
 mod tests;
 
-// The amount in ticks, the state in which it is paid, the first year and the year before which it ends,
+use units::amount::Amount;
+
+// The amount, the state in which it is paid, the first year and the year before which it ends,
 // and the number of years in which the premium is due.
 #[derive(Clone, Copy, PartialEq, Eq, Debug)]
 pub struct Annuity {
-    amount: u64,
+    amount: Amount,
     state: usize,
     first: usize,
     end: usize,
     paying_years: usize,
-    ghost ticks: { amount ≤ limit },
     ghost recipient: { state ≤ 7 },
     ghost order: { first ≤ end },
     ghost few: { end ≤ 120 },

@@ -12,7 +12,7 @@ impl Plan for Annuity {
 
     fn benefit(&self, state: usize, year: usize) -> u64 {
         if state == self.state && self.first <= year && year < self.end {
-            self.amount
+            self.amount.ticks()
         } else {
             0
         }

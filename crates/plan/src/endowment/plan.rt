@@ -12,7 +12,7 @@ impl Plan for Endowment {
 
     fn benefit(&self, state: usize, year: usize) -> u64 {
         if state == 0 && year == self.term {
-            self.sum
+            self.sum.ticks()
         } else {
             0
         }
@@ -24,7 +24,7 @@ impl Plan for Endowment {
 
     fn move_benefit(&self, from: usize, to: usize, year: usize) -> u64 {
         if from == 0 && to == 1 && year < self.term {
-            self.sum
+            self.sum.ticks()
         } else {
             0
         }

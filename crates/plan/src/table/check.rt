@@ -7,14 +7,15 @@ ghost use Rattle.units.specs.declared.fault.Layer.TheVariants.{Plan};
 ghost use Rattle.plan.specs.PaymentColumns.{FitSize, Fit, UnfitPlace, UnfitMove, Refuses};
 
 use units::columns::first_outside;
-use units::fault::{Fault, Layer};
+use units::fault::Fault;
+use units::rule::Rule;
 use units::{LIMIT, MOST_STATES, MOST_YEARS};
 
 // The fault of the entry that stands at a place of the benefits or the marks.
 fn fault_at(place: usize) -> Fault
     ensures { result ≡ entry_fault 12 Plan (place / 8) (place % 8) }
 {
-    Fault::at_entry(12, Layer::Plan, place / MOST_STATES, place % MOST_STATES)
+    Fault::breach(Rule::Payment, place / MOST_STATES, place % MOST_STATES)
 }
 
 // Whether a table can have so many years, and the columns one entry for each of their places.
@@ -58,7 +59,7 @@ pub(super) fn check(
     ensures { MatchResult result (λ _. Fit years benefits.now marks.now moves.now) (λ fault. Refuses years benefits.now marks.now moves.now fault) }
 {
     if !fits(years, benefits, marks, moves) {
-        return Err(Fault::at_entry(12, Layer::Plan, 0, 0));
+        return Err(Fault::breach(Rule::Payment, 0, 0));
     }
     check_places(benefits, LIMIT as i64)?;
     check_places(marks, 1)?;
