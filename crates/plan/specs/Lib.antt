@@ -4,3 +4,4 @@ pub mod Endowments
 pub mod PaymentColumns
 pub mod PaymentTables
 pub mod Payments
+pub mod Readings

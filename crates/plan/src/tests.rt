@@ -1,20 +1,21 @@
-// An endowment at the edges of its rules.
+// An endowment at the edges of its rules, and what the tests of all plans share.
 use crate::Plan;
 use crate::endowment::Endowment;
 use std::test::Fail;
 use units::fault::{Fault, Layer};
 
-fn refused(year: usize) -> Result<Endowment, Fault> {
-    Err(Fault::at_entry(12, Layer::Plan, year, 0))
+// The refusal of a plan at a year and a state, whatever was to be made.
+pub(crate) fn refused<T>(year: usize, state: usize) -> Result<T, Fault> {
+    Err(Fault::at_entry(12, Layer::Plan, year, state))
 }
 
 #[test]
 fn refuses_what_is_unfit(rt: HostRuntime) {
-    assert_eq!(rt; Endowment::new(1, 0, 0), refused(0));
-    assert_eq!(rt; Endowment::new(-1, 121, 0), refused(0));
-    assert_eq!(rt; Endowment::new(1, 10, 11), refused(0));
-    assert_eq!(rt; Endowment::new(-1, 10, 10), refused(10));
-    assert_eq!(rt; Endowment::new(10_000_000_001, 120, 0), refused(120));
+    assert_eq!(rt; Endowment::new(1, 0, 0), refused(0, 0));
+    assert_eq!(rt; Endowment::new(-1, 121, 0), refused(0, 0));
+    assert_eq!(rt; Endowment::new(1, 10, 11), refused(0, 0));
+    assert_eq!(rt; Endowment::new(-1, 10, 10), refused(10, 0));
+    assert_eq!(rt; Endowment::new(10_000_000_001, 120, 0), refused(120, 0));
     assert!(rt; Endowment::new(10_000_000_000, 120, 120).is_ok());
     assert!(rt; Endowment::new(0, 1, 0).is_ok());
 }

@@ -1,12 +1,8 @@
 // An annuity at the edges of its rules.
 use super::Annuity;
 use crate::Plan;
+use crate::tests::refused;
 use std::test::Fail;
-use units::fault::{Fault, Layer};
-
-fn refused(year: usize, state: usize) -> Result<Annuity, Fault> {
-    Err(Fault::at_entry(12, Layer::Plan, year, state))
-}
 
 #[test]
 fn refuses_what_is_unfit(rt: HostRuntime) {

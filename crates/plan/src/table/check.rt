@@ -18,17 +18,6 @@ fn fault_at(place: usize) -> Fault
     Fault::breach(Rule::Payment, place / MOST_STATES, place % MOST_STATES)
 }
 
-// Whether a table can have so many years, and the columns one entry for each of their places.
-fn fits(years: usize, benefits: &[i64], marks: &[i64], moves: &[i64]) -> bool
-    ensures fit { result ≡ true → FitSize years benefits.now marks.now moves.now }
-    ensures unfit { result ≡ false → FitSize years benefits.now marks.now moves.now → ⊥ }
-{
-    years <= MOST_YEARS
-        && benefits.len() == MOST_STATES * (years + 1)
-        && marks.len() == MOST_STATES * (years + 1)
-        && moves.len() == MOST_STATES * MOST_STATES * years
-}
-
 // Refuses the first benefit or mark that is not from 0 to `high`.
 fn check_places(column: &[i64], high: i64) -> Result<(), Fault>
     ensures { MatchResult result (λ _. AllBetween (pos 0) high column.now) (λ fault. UnfitPlace high column.now fault) }
@@ -49,19 +38,36 @@ fn check_moves(moves: &[i64]) -> Result<(), Fault>
     }
 }
 
-// Whether a table can hold the columns, and otherwise what is first wrong with them.
-pub(super) fn check(
-    years: usize,
-    benefits: &[i64],
-    marks: &[i64],
-    moves: &[i64],
-) -> Result<(), Fault>
-    ensures { MatchResult result (λ _. Fit years benefits.now marks.now moves.now) (λ fault. Refuses years benefits.now marks.now moves.now fault) }
-{
-    if !fits(years, benefits, marks, moves) {
-        return Err(Fault::breach(Rule::Payment, 0, 0));
+// What a table of so many years is to take in, as it is handed in.
+#[derive(Clone, Copy)]
+pub(super) struct Columns<'a> {
+    pub(super) years: usize,
+    pub(super) benefits: &'a [i64],
+    pub(super) marks: &'a [i64],
+    pub(super) moves: &'a [i64],
+}
+
+impl Columns<'_> {
+    // Whether a table can have so many years, and the columns one entry for each of their places.
+    fn fits(&self) -> bool
+        ensures fit { result ≡ true → FitSize self.now.years self.now.benefits.now self.now.marks.now self.now.moves.now }
+        ensures unfit { result ≡ false → FitSize self.now.years self.now.benefits.now self.now.marks.now self.now.moves.now → ⊥ }
+    {
+        self.years <= MOST_YEARS
+            && self.benefits.len() == MOST_STATES * (self.years + 1)
+            && self.marks.len() == MOST_STATES * (self.years + 1)
+            && self.moves.len() == MOST_STATES * MOST_STATES * self.years
     }
-    check_places(benefits, LIMIT as i64)?;
-    check_places(marks, 1)?;
-    check_moves(moves)
+
+    // Whether a table can hold the columns, and otherwise what is first wrong with them.
+    pub(super) fn check(&self) -> Result<(), Fault>
+        ensures { MatchResult result (λ _. Fit self.now.years self.now.benefits.now self.now.marks.now self.now.moves.now) (λ fault. Refuses self.now.years self.now.benefits.now self.now.marks.now self.now.moves.now fault) }
+    {
+        if !self.fits() {
+            return Err(Fault::breach(Rule::Payment, 0, 0));
+        }
+        check_places(self.benefits, LIMIT as i64)?;
+        check_places(self.marks, 1)?;
+        check_moves(self.moves)
+    }
 }

@@ -1,22 +1,38 @@
 // Making a table, and taking columns in.
-ghost use Rattle.std.specs.Prelude.{◌≡◌, ◌≤◌, [], length, replicate, pos, IfOk, vec_capacity, MatchResult};
+ghost use Rattle.std.specs.Prelude.{◌≡◌, ℤ, ◌≤◌, [], length, map, replicate, pos, IfOk, vec_len, vec_capacity, MatchResult};
+ghost use Rattle.units.specs.Ranges.{WithinLimit};
 ghost use Rattle.plan.specs.PaymentColumns.{Fit, Refuses};
 ghost use Rattle.plan.specs.PaymentTables.{Holds};
+ghost use Rattle.plan.specs.Readings.{Readable, GivesBack};
 
 use super::PaymentTable;
-use super::check::check;
+use super::check::Columns;
 use std::alloc::{AllocError, Global};
+use units::amount::Amount;
 use units::fault::Fault;
 use units::{MOST_STATES, MOST_YEARS};
 
-// Puts the entries of `column` in place of those that are kept, within the memory that there is.
-fn refill(kept: &mut Vec<i64>, column: &[i64])
-    requires { length column.now ≤ vec_capacity kept.old }
-    ensures items { kept.new.items ≡ column.now }
-    ensures capacity { vec_capacity kept.old ≤ vec_capacity kept.new }
+// Puts what the entries of `column` stand for in place of those that are kept, within the memory that there is.
+// A public function may ask nothing of its callers, so the crates cannot share one that asks for room.
+fn refill<T: Copy, F: Fn(i64) -> T>(kept: &mut Vec<T>, column: &[i64], read: F)
+    requires readable { Readable (F.pre read) column.now }
+    requires room { length column.now ≤ vec_capacity kept.old }
+    ensures items { (value : T → ℤ) → GivesBack value (F.post read) column.now → map value kept.new.items ≡ column.now }
+    ensures len { vec_len kept.new ≡ length column.now }
+    ensures capacity { vec_capacity kept.new ≡ vec_capacity kept.old }
 {
     kept.clear();
-    let _ = kept.extend_from_slice(column);
+    for entry in column {
+        kept.push_reserved(read(*entry));
+    }
+}
+
+// The amount of an entry that was checked.
+fn amount(entry: i64) -> Amount
+    requires { WithinLimit entry }
+    ensures { pos result.ticks ≡ entry }
+{
+    Amount::new(entry).unwrap()
 }
 
 impl PaymentTable {
@@ -25,9 +41,9 @@ impl PaymentTable {
         ensures { IfOk result (λ s. Holds s 0 (replicate 8 (pos 0)) (replicate 8 (pos 0)) []) }
     {
         let mut benefits = Vec::with_capacity(heap, MOST_STATES * (MOST_YEARS + 1))?;
-        benefits.extend_from_slice(&[0; MOST_STATES])?;
+        benefits.extend_from_slice(&[Amount::zero(); MOST_STATES])?;
         let mut marks = Vec::with_capacity(heap, MOST_STATES * (MOST_YEARS + 1))?;
-        marks.extend_from_slice(&[0; MOST_STATES])?;
+        marks.extend_from_slice(&[false; MOST_STATES])?;
         let moves = Vec::with_capacity(heap, MOST_STATES * MOST_STATES * MOST_YEARS)?;
         Ok(PaymentTable {
             years: 0,
@@ -47,10 +63,16 @@ impl PaymentTable {
     ) -> Result<(), Fault>
         ensures { MatchResult result (λ _. Fit years benefits.now marks.now moves.now × Holds self.new years benefits.now marks.now moves.now) (λ fault. (Fit years benefits.now marks.now moves.now → ⊥) × Refuses years benefits.now marks.now moves.now fault × (self.new ≡ self.old)) }
     {
-        check(years, benefits, marks, moves)?;
-        refill(&mut self.benefits, benefits);
-        refill(&mut self.marks, marks);
-        refill(&mut self.moves, moves);
+        let columns = Columns {
+            years,
+            benefits,
+            marks,
+            moves,
+        };
+        columns.check()?;
+        refill(&mut self.benefits, benefits, amount);
+        refill(&mut self.marks, marks, |mark| mark == 1);
+        refill(&mut self.moves, moves, amount);
         self.years = years;
         Ok(())
     }

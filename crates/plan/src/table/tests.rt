@@ -1,12 +1,8 @@
 // A table at the edges of its rules.
 use super::PaymentTable;
 use crate::Plan;
+use crate::tests::refused;
 use std::test::Fail;
-use units::fault::{Fault, Layer};
-
-fn refused(year: usize, state: usize) -> Result<(), Fault> {
-    Err(Fault::at_entry(12, Layer::Plan, year, state))
-}
 
 #[test]
 fn refuses_unfit_years_and_lengths(rt: HostRuntime) -> Result<(), Fail> {
