@@ -1,5 +1,5 @@
 // The checks of what a table is to take in, in the order of the refusals.
-ghost use Rattle.std.specs.Prelude.{◌≡◌, ◌/◌, ◌%◌, true, false, pos, MatchResult};
+ghost use Rattle.std.specs.Prelude.{◌≡◌, ◌/◌, ◌%◌, ◌↔◌, IsTrue, pos, MatchResult};
 ghost use Rattle.units.specs.Columns.{AllBetween};
 ghost use Rattle.units.specs.Faults.{entry_fault};
 ghost use Rattle.units.specs.Ranges.{limit};
@@ -50,8 +50,7 @@ pub(super) struct Columns<'a> {
 impl Columns<'_> {
     // Whether a table can have so many years, and the columns one entry for each of their places.
     fn fits(&self) -> bool
-        ensures fit { result ≡ true → FitSize self.now.years self.now.benefits.now self.now.marks.now self.now.moves.now }
-        ensures unfit { result ≡ false → FitSize self.now.years self.now.benefits.now self.now.marks.now self.now.moves.now → ⊥ }
+        ensures { IsTrue result ↔ FitSize self.now.years self.now.benefits.now self.now.marks.now self.now.moves.now }
     {
         self.years <= MOST_YEARS
             && self.benefits.len() == MOST_STATES * (self.years + 1)
