@@ -1,5 +1,5 @@
 // The checks of what a table is to take in, in the order of the refusals.
-ghost use Rattle.std.specs.Prelude.{◌≡◌, true, false, pos, MatchResult};
+ghost use Rattle.std.specs.Prelude.{◌↔◌, IsTrue, pos, MatchResult};
 ghost use Rattle.units.specs.Columns.{AllBetween};
 ghost use Rattle.units.specs.Ranges.{million};
 ghost use Rattle.basis.specs.TransitionColumns.{LawfulRows, FitSize, Fit, UnfitFactor, UnfitRow, Refuses};
@@ -19,11 +19,10 @@ pub(super) struct Columns<'a> {
     pub(super) shares: &'a [i64],
 }
 
-impl<'a> Columns<'a> {
+impl Columns<'_> {
     // Whether a table can have so many states and years, and the columns one entry for each of their places.
-    fn fit(&self) -> bool
-        ensures fit { result ≡ true → FitSize self.now.states self.now.years self.now.factors.now self.now.shares.now }
-        ensures unfit { result ≡ false → FitSize self.now.states self.now.years self.now.factors.now self.now.shares.now → ⊥ }
+    fn fits(&self) -> bool
+        ensures { IsTrue result ↔ FitSize self.now.states self.now.years self.now.factors.now self.now.shares.now }
     {
         2 <= self.states
             && self.states <= MOST_STATES
@@ -58,7 +57,7 @@ impl<'a> Columns<'a> {
     pub(super) fn check(&self) -> Result<(), Fault>
         ensures { MatchResult result (λ _. Fit self.now.states self.now.years self.now.factors.now self.now.shares.now) (λ fault. Refuses self.now.states self.now.years self.now.factors.now self.now.shares.now fault) }
     {
-        if !self.fit() {
+        if !self.fits() {
             return Err(Fault::breach(Rule::Size, 0, 0));
         }
         self.check_factors()?;

@@ -1,5 +1,5 @@
 // The check of the shares, row by row.
-ghost use Rattle.std.specs.Prelude.{◌≡◌, ◌/◌, ◌<◌, ◌≤◌, true, false, length, MatchOption};
+ghost use Rattle.std.specs.Prelude.{◌/◌, ◌<◌, ◌≤◌, ◌↔◌, IsTrue, length, MatchOption};
 ghost use Rattle.basis.specs.TransitionColumns.{LawfulRow, LawfulBelow, row};
 
 use units::MILLION;
@@ -7,8 +7,7 @@ use units::MILLION;
 // Whether the shares out of one state in one year lie from 0 to a million and add up to a million.
 fn is_lawful(shares: &[i64]) -> bool
     requires { length shares.now ≤ 8 }
-    ensures lawful { result ≡ true → LawfulRow shares.now }
-    ensures unlawful { result ≡ false → LawfulRow shares.now → ⊥ }
+    ensures { IsTrue result ↔ LawfulRow shares.now }
 {
     let mut sum = 0;
     for share in shares {
