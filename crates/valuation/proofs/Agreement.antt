@@ -1,9 +1,8 @@
 -- The sweep's figures in the mean are the reserves. Assumes nothing.
-use Rattle.std.proofs.Common.{◌≡◌, ℕ, zero, suc, ◌+◌, ◌-◌, ◌*◌, ◌<◌, ◌≤◌, List, [], ◌∷◌, map, ℤ, pos, ◌+ℤ◌, ◌*ℤ◌, refl, ap, ◌∙◌, subst, ⊎_elim, mul-le-mul_right, arith}
-use borrow.Author.Differences.{ints}
+use Rattle.std.proofs.Common.{◌≡◌, ℕ, zero, suc, ◌+◌, ◌-◌, ◌*◌, ◌<◌, ◌≤◌, List, map, ℤ, pos, ◌+ℤ◌, ◌*ℤ◌, refl, ap, ◌∙◌, mul-le-mul_right, arith}
 use Rattle.std.specs.List.{AllByRecursion}
+use Rattle.std.proofs.Math.IntN.{+ℤ_comm, +ℤ_idl}
 use Rattle.std.proofs.lemmas.List.Sums.{sum-map}
-use Rattle.std.proofs.lemmas.Bool.Decides.{leb_tells}
 use Rattle.units.specs.Near.{Within}
 use Rattle.units.specs.Ranges.{million, limit}
 use Rattle.units.proofs.Distances.{within_pos, within_more, within_add, within_times}
@@ -15,19 +14,9 @@ use Rattle.valuation.specs.Reserves.{expected, present, reserve_with, reserve}
 use Rattle.valuation.proofs.Sums.{unsaturated, weighted_is, products_map, all_map_every}
 use Rattle.valuation.proofs.Range.{reach, shares_most, expected_within, present_within, flow_within, reserve_within}
 
-map_same : {X Y : Type 0} (f g : X → Y) (xs : List X) → ((x : X) → f x ≡ g x) → map f xs ≡ map g xs
-map_same f g [] same = refl
-map_same f g (x ∷ xs) same = let e = same x in let r = map_same f g xs same in cc
-
-turned : (a b : ℤ) → a +ℤ b ≡ b +ℤ a
-turned a b = omega (arith, ints)
-
-nought_and : (a : ℤ) → pos 0 +ℤ a ≡ a
-nought_and a = omega (arith, ints)
-
 -- the mean's own operations where every answer is fixed
 pub join_is : (row : List ℕ) (xs : List ℤ) (i : ℕ) → LawfulRow row → AllByRecursion LawfulFigure xs → mean.join i row xs ≡ rounded_mean (products row xs)
-join_is row xs i whole each = ap rounded_mean (weighted_is row xs 0 (pos 0) (omega arith) (within_pos _ 0 (omega arith)) each ∙ nought_and (products row xs))
+join_is row xs i whole each = ap rounded_mean (weighted_is row xs 0 (pos 0) (omega arith) (within_pos _ 0 (omega arith)) each ∙ +ℤ_idl (products row xs))
 
 pub discount_is : (factor : ℕ) (x : ℤ) → factor ≤ million → LawfulFigure x → mean.discount factor x ≡ rounded_discount (pos factor *ℤ x)
 discount_is factor x low small =
@@ -47,10 +36,9 @@ module _ (c : Transitions) (law : Lawful c) (p : Payments) (range : InRange p) w
 
     follows_is : map (λ j. mean.add (next j) (pos (p.move_benefit i j t))) (moves c) ≡ map (λ j. pos (p.move_benefit i j t) +ℤ next j) (moves c)
     follows_is =
-        map_same (λ j. mean.add (next j) (pos (p.move_benefit i j t))) (λ j. pos (p.move_benefit i j t) +ℤ next j) (moves c)
-        (λ j.
-        add_is (next j) (pos (p.move_benefit i j t)) (within_more (omega arith) (each j)) (within_more (omega arith) (paid j))
-        ∙ turned (next j) (pos (p.move_benefit i j t)))
+        let same : (j : ℕ) → mean.add (next j) (pos (p.move_benefit i j t)) ≡ pos (p.move_benefit i j t) +ℤ next j = λ j.
+        add_is (next j) (pos (p.move_benefit i j t)) (within_more (omega arith) (each j)) (within_more (omega arith) (paid j)) ∙ +ℤ_comm (next j) (pos (p.move_benefit i j t)) in
+        λ u. map (λ j. same j u) (moves c)
 
     pub joined_is : joined mean c p i t next ≡ expected c p i t next
     joined_is =
@@ -67,7 +55,7 @@ module _ (c : Transitions) (law : Lawful c) (p : Payments) (range : InRange p) w
         ∙ discount_is (c.factor t) (expected c p i t next) (law.most_factor t) (within_more room (expected_within c law p range i t d next early each))
 
   module _ (premium : ℕ) (small : premium ≤ limit) where
-    pub figure_with_is : (k i t : ℕ) → t + k ≤ c.years → figure_with mean c p premium k i t ≡ reserve_with c p premium k i t
+    pub figure_with_is : (k i t : ℕ) → k ≤ c.years - t → figure_with mean c p premium k i t ≡ reserve_with c p premium k i t
     figure_with_is zero i t l = refl
     figure_with_is (suc k) i t l =
         let next : ℕ → ℤ = λ j. reserve_with c p premium k j (t + 1) in
@@ -77,23 +65,12 @@ module _ (c : Transitions) (law : Lawful c) (p : Payments) (range : InRange p) w
         ap (λ f. figure_before mean c p premium i t f) same
         ∙ ap (λ z. mean.add z (flow c p premium i t)) (discounted_is i t (reach k) next (omega arith) each (omega arith))
         ∙ add_is (present c p i t next) (flow c p premium i t) (within_more (omega arith) (present_within c law p range i t (reach k) next (omega arith) each)) (within_more (omega arith) (flow_within c law p range premium small i t))
-        ∙ turned (present c p i t next) (flow c p premium i t)
-
-    -- what holds of every reserve with k years left at which the last year is not passed, and of every flow, holds of every reserve
-    at_any_year : (P : ℕ → ℕ → Type 0) → ((k t : ℕ) → t + k ≤ c.years → P k t) → ((t : ℕ) → P 0 t) → (t : ℕ) → P (c.years - t) t
-    at_any_year P early late t =
-        ⊎_elim
-        (λ past. let none : 0 ≡ c.years - t = omega (arith, past.1) in subst (λ k. P k t) none (late t))
-        (λ before. early (c.years - t) t (omega (arith, before.1)))
-        (leb_tells c.years t)
+        ∙ +ℤ_comm (present c p i t next) (flow c p premium i t)
 
     pub figure_is : (i t : ℕ) → figure mean c p premium i t ≡ reserve c p premium i t
-    figure_is i t = at_any_year (λ k u. figure_with mean c p premium k i u ≡ reserve_with c p premium k i u) (λ k u. figure_with_is k i u) (λ u. refl) t
+    figure_is i t = figure_with_is (c.years - t) i t (omega arith)
 
     pub reserve_bound : (i t : ℕ) → LawfulFigure (reserve c p premium i t)
     reserve_bound i t =
         let years = law.most_years in
-        at_any_year (λ k u. LawfulFigure (reserve_with c p premium k i u))
-        (λ k u l. within_more (omega arith) (reserve_within c law p range premium small k i u l))
-        (λ u. within_more (omega arith) (flow_within c law p range premium small i u))
-        t
+        within_more (omega arith) (reserve_within c law p range premium small (c.years - t) i t (omega arith))

@@ -1,5 +1,4 @@
 pub mod Agreement
-pub mod Loops
 pub mod Range
 pub mod Rounded
 pub mod Sums

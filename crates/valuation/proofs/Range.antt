@@ -1,5 +1,5 @@
 -- No reserve of a lawful basis and a plan in range leaves ±5 · 10^12 ticks. Assumes nothing.
-use Rattle.std.proofs.Common.{ℕ, zero, suc, ◌+◌, ◌*◌, ◌<◌, ◌≤◌, Bool, true, false, cond, ◌&&◌, ltb, ℤ, pos, ◌+ℤ◌, sum_by, ⊎_elim, mul-le-mul_right, arith}
+use Rattle.std.proofs.Common.{ℕ, zero, suc, ◌+◌, ◌-◌, ◌*◌, ◌<◌, ◌≤◌, ℤ, pos, ◌+ℤ◌, sum_by, ⊎_elim, mul-le-mul_right, arith}
 use borrow.Author.Differences.{ints}
 use Rattle.std.proofs.lemmas.Bool.Decides.{leb_tells}
 use Rattle.units.specs.Near.{Within}
@@ -11,10 +11,6 @@ use Rattle.plan.specs.Payments.{Payments, InRange}
 use Rattle.valuation.specs.Figures.{flow}
 use Rattle.valuation.specs.Reserves.{expected, present, reserve_with}
 use Rattle.valuation.proofs.Rounded.{rounded_mean_within, rounded_discount_within}
-
-charged : (b : Bool) (premium : ℕ) → premium ≤ limit → cond b premium 0 ≤ limit
-charged true premium h = h
-charged false premium h = omega arith
 
 -- how far a reserve can go, with k years left
 abbrev pub reach : ℕ → ℕ
@@ -42,10 +38,9 @@ module _ (c : Transitions) (law : Lawful c) (p : Payments) (range : InRange p) w
     pub flow_within : (i t : ℕ) → Within limit (flow c p premium i t)
     flow_within i t =
         let paid = range.most_benefit i t in
-        let due = charged (ltb t c.years && p.due i t) premium most in
-        record { low = omega (arith, ints); high = omega (arith, ints) }
+        record { low = grind (arith, ints); high = grind (arith, ints) }
 
-    pub reserve_within : (k i t : ℕ) → t + k ≤ c.years → Within (reach k) (reserve_with c p premium k i t)
+    pub reserve_within : (k i t : ℕ) → k ≤ c.years - t → Within (reach k) (reserve_with c p premium k i t)
     reserve_within zero i t l = within_more (omega arith) (flow_within i t)
     reserve_within (suc k) i t l =
         within_more (omega arith) (within_add (flow_within i t) (present_within i t (reach k) (λ j. reserve_with c p premium k j (t + 1)) (omega arith) (λ j. reserve_within k j (t + 1) (omega arith))))

@@ -1,19 +1,15 @@
 -- The weighted sum of the mean. Assumes nothing.
-use Rattle.std.proofs.Common.{◌≡◌, ℕ, ◌+◌, ◌*◌, ◌≤◌, ◌⊎◌, List, [], ◌∷◌, map, ℤ, pos, negsuc, ◌+ℤ◌, ◌*ℤ◌, sum, sym, refl, ap, ◌∙◌, subst, inl, inr, add-mul, arith}
+use Rattle.std.proofs.Common.{◌≡◌, ℕ, ◌+◌, ◌*◌, ◌≤◌, ◌⊎◌, List, [], ◌∷◌, map, ℤ, pos, ◌+ℤ◌, ◌*ℤ◌, sum, sym, refl, ap, ◌∙◌, subst, inl, inr, add-mul, arith}
 use borrow.Author.Differences.{ints}
 use Rattle.std.specs.Int.{saturate_to_bits}
 use Rattle.std.specs.List.{AllByRecursion}
+use Rattle.std.proofs.Math.IntN.{+ℤ_assoc}
 use Rattle.std.proofs.lemmas.List.Sums.{sum_by-cons}
 use Rattle.units.specs.Near.{Within}
 use Rattle.units.specs.Ranges.{million}
 use Rattle.units.specs.Sums.{int_sum_by}
 use Rattle.units.proofs.Distances.{within_more, within_add, within_times}
 use Rattle.valuation.specs.Means.{weighted, LawfulFigure, products}
-
--- one share and one figure more
-pub weighted_more : (sum new part x : ℤ) (p : ℕ) (ps rest : List ℕ) (xs others : List ℤ) → ps ≡ p ∷ rest → xs ≡ x ∷ others → new ≡ saturate_to_bits 63 (sum +ℤ part) → part ≡ saturate_to_bits 63 (pos p *ℤ x) → weighted new rest others ≡ weighted sum ps xs
-weighted_more sum new part x p ps rest xs others first second added is =
-    ap (λ z. weighted z rest others) (added ∙ ap (λ z. saturate_to_bits 63 (sum +ℤ z)) is) ∙ sym (ap (λ zs. weighted sum zs xs) first ∙ ap (weighted sum (p ∷ rest)) second)
 
 -- no share or no figure more
 pub weighted_all : (sum : ℤ) (ps : List ℕ) (xs : List ℤ) → (ps ≡ []) ⊎ (xs ≡ []) → weighted sum ps xs ≡ sum
@@ -23,8 +19,7 @@ weighted_all sum (p ∷ ps) (x ∷ xs) (inl e) = cc
 weighted_all sum (p ∷ ps) (x ∷ xs) (inr e) = cc
 
 pub unsaturated : (z : ℤ) → Within 9000000000000000000 z → saturate_to_bits 63 z ≡ z
-unsaturated (pos n) h = let k : n ≤ 9000000000000000000 = omega (arith, ints, h.low) in ap pos (omega arith)
-unsaturated (negsuc n) h = let k : n ≤ 9000000000000000000 = omega (arith, ints, h.high) in ap negsuc (omega arith)
+unsaturated z h = grind (arith, ints, h.low, h.high)
 
 -- the largest lawful figure: 64 bits hold its product with a million, and more
 abbrev most : ℕ
@@ -40,13 +35,7 @@ weighted_is (p ∷ ps) (x ∷ xs) before so_far whole small each =
     let more : Within ((before + p) * most) (so_far +ℤ pos p *ℤ x) = subst (λ d. Within d (so_far +ℤ pos p *ℤ x)) (sym (add-mul before p most)) (within_add small part) in
     let one : saturate_to_bits 63 (pos p *ℤ x) ≡ pos p *ℤ x = unsaturated _ (within_more (omega arith) part) in
     let both : saturate_to_bits 63 (so_far +ℤ pos p *ℤ x) ≡ so_far +ℤ pos p *ℤ x = unsaturated _ (within_more (omega arith) more) in
-    ap (λ z. weighted (saturate_to_bits 63 (so_far +ℤ z)) ps xs) one
-    ∙ ap (λ z. weighted z ps xs) both
-    ∙ weighted_is ps xs (before + p) (so_far +ℤ pos p *ℤ x) (omega arith) more each.1
-    ∙ grouped so_far (pos p *ℤ x) (products ps xs)
-  where
-    grouped : (a b c : ℤ) → (a +ℤ b) +ℤ c ≡ a +ℤ (b +ℤ c)
-    grouped a b c = omega (arith, ints)
+    rw (one, both) (weighted_is ps xs (before + p) (so_far +ℤ pos p *ℤ x) (omega arith) more each.1 ∙ +ℤ_assoc so_far (pos p *ℤ x) (products ps xs))
 
 pub products_map : (share : ℕ → ℕ) (f : ℕ → ℤ) (js : List ℕ) → products (map share js) (map f js) ≡ int_sum_by (λ j. pos (share j) *ℤ f j) js
 products_map share f [] = refl

@@ -1,5 +1,5 @@
 -- The figure of each state and year, backwards from the last year of the basis. Assumes nothing.
-use Rattle.std.specs.Prelude.{◌≡◌, ℕ, zero, suc, ◌+◌, ◌-◌, cond, ◌&&◌, List, map, ℤ, pos, ◌-ℤ◌, nat_lt}
+use Rattle.std.specs.Prelude.{ℕ, zero, suc, ◌+◌, ◌-◌, cond, ◌&&◌, List, map, ℤ, pos, ◌-ℤ◌, nat_lt}
 use Rattle.basis.specs.Transitions.{Transitions, moves}
 use Rattle.plan.specs.Payments.{Payments}
 use Rattle.valuation.specs.Operations.{Operations}
@@ -32,7 +32,3 @@ module _ {F : Type 0} (v : Operations F) (c : Transitions) (p : Payments) where
   -- the figures of all states of the basis in year t
   abbrev pub figures_of : ℕ → ℕ → List F
   figures_of premium t = map (λ i. figure premium i t) (moves c)
-
--- what is said of a list that holds a figure for each state of the basis
-abbrev pub Given : {F : Type 0} → Transitions → List F → ((ℕ → F) → Type 0) → Type 0
-Given {F} c after Says = (next : ℕ → F) → after ≡ map next (moves c) → Says next

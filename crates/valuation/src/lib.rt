@@ -4,11 +4,13 @@
 ghost use Rattle.std.specs.Prelude.{◌≡◌};
 ghost use Rattle.valuation.specs.Operations.{Operations, Ordered};
 
+mod fill;
 pub mod mean;
 pub mod reserve;
 mod sweep;
 #[cfg(test)]
 mod tests;
+mod year;
 
 // How the sweep reckons with figures of one kind. Each call has an answer for all arguments,
 // and raising the amount or a figure that it is given never lowers that answer.

@@ -10,7 +10,7 @@ use crate::Valuation;
 use units::rounding::nearest;
 
 #[derive(Clone, Copy)]
-pub struct Mean {}
+pub struct Mean;
 
 // So many parts of a million of a figure, in millionths of a tick.
 fn parts_of(share: u32, figure: i64) -> i64
@@ -65,6 +65,7 @@ impl Valuation for Mean {
         round_mean(sum)
     }
 
+    #[tactic(auto, using(crate::proofs::Agreement::discount_is))]
     fn discount(&self, factor: u32, figure: i64) -> i64
         ensures meaning { result ≡ mean.discount factor figure }
         ensures formula { factor ≤ million → LawfulFigure figure → result ≡ rounded_discount (pos factor *ℤ figure) }
