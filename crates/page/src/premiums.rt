@@ -14,7 +14,7 @@ const SUM: i64 = 10_000_000;
 
 // What an endowment of 1000 francs costs at once: the reserve in year 0 with no yearly premium to come.
 pub fn single_premium<B: Basis>(basis: &B, term: usize) -> Result<i64, Fault>
-    ensures { MatchResult result (λ premium. premium ≡ reserve (B.Basis.meaning basis.now) (endows 10000000 term 0) 0 0 0) (λ fault. Refuses (pos 10000000) term 0 fault) }
+    ensures { MatchResult result (λ premium. premium ≡ reserve (B.meaning basis.now) (endows 10000000 term 0) 0 0 0) (λ fault. Refuses (pos 10000000) term 0 fault) }
 {
     let plan = Endowment::new(SUM, term, 0)?;
     Ok(reserve(basis, &plan, Premium::zero(), 0, 0))

@@ -23,14 +23,14 @@ impl<B: Basis> AgeShift<B> {
 
     // The year below that is year 0 here.
     fn first(&self) -> usize
-        ensures { result ≡ first_year (B.Basis.meaning self.now.below) self.now.by }
+        ensures { result ≡ first_year (B.meaning self.now.below) self.now.by }
     {
         self.by.min(self.below.years() - 1)
     }
 
     // The year below that is a year here, where there is such a year.
     fn year_below(&self, year: usize) -> Option<usize>
-        ensures { MatchOption result ((B.Basis.meaning self.now.below).years ≤ year + first_year (B.Basis.meaning self.now.below) self.now.by) (λ t. (t ≡ year + first_year (B.Basis.meaning self.now.below) self.now.by) × (t < (B.Basis.meaning self.now.below).years)) }
+        ensures { MatchOption result ((B.meaning self.now.below).years ≤ year + first_year (B.meaning self.now.below) self.now.by) (λ t. (t ≡ year + first_year (B.meaning self.now.below) self.now.by) × (t < (B.meaning self.now.below).years)) }
     {
         year.checked_add(self.first())
             .filter(|t| *t < self.below.years())
@@ -38,9 +38,9 @@ impl<B: Basis> AgeShift<B> {
 }
 
 impl<B: Basis> Basis for AgeShift<B> {
-    ghost meaning = { λ s. shifted (B.Basis.meaning s.below) s.by };
+    ghost meaning = { λ s. shifted (B.meaning s.below) s.by };
 
-    ghost lawful = { λ s. shifted_lawful _ _ (B.Basis.lawful s.below) };
+    ghost lawful = { λ s. shifted_lawful _ _ (B.lawful s.below) };
 
     fn states(&self) -> usize {
         self.below.states()
