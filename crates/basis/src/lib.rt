@@ -24,6 +24,7 @@ pub trait Basis {
     fn factor(&self, year: usize) -> u32
         ensures { result ≡ (meaning self.now).factor year };
 
+    // Three plain numbers: every basis would take a struct of them apart at once.
     fn share(&self, from: usize, to: usize, year: usize) -> u32
         ensures { result ≡ (meaning self.now).share from to year };
 

@@ -26,6 +26,7 @@ const DISABLED: usize = 1;
 
 const YEARS: usize = 10;
 
+// A row of figures as in the other program, of which the two share no crate.
 fn print_year<P: Plan>(
     rt: &HostRuntime,
     basis: &TransitionTable,

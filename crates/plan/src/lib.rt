@@ -22,7 +22,7 @@ pub trait Plan {
     fn due(&self, state: usize, year: usize) -> bool
         ensures { result ≡ (payments self.now).due state year };
 
-    // What is paid for a move at the end of a year.
+    // What is paid for a move at the end of a year. Three plain numbers: every plan would take a struct of them apart at once.
     fn move_benefit(&self, from: usize, to: usize, year: usize) -> u64
         ensures { result ≡ (payments self.now).move_benefit from to year };
 

@@ -1,4 +1,4 @@
-// A fault in plain words.
+// A fault in plain words. By hand: of what a derived display writes, a contract could say nothing.
 ghost use Rattle.std.specs.Prelude.{◌≡◌, Some};
 ghost use Rattle.units.specs.FaultTexts.{layer_text, place_text, text_of_fault};
 ghost use Rattle.units.specs.Rules.{rule_text};
@@ -33,7 +33,7 @@ impl fmt::Display for Place {
     }
 }
 
-// The words of the rule that a number stands for, or those for all other numbers.
+// The words of the rule that a number stands for, or those for all other numbers. A fault keeps a number, so this takes one.
 fn words(number: u8) -> &'static str
     ensures { result.now ≡ rule_text number }
 {

@@ -1,4 +1,4 @@
-// Amounts for a reader: francs with two decimals.
+// Amounts for a reader: francs with two decimals, written by hand since no derive writes them.
 ghost use Rattle.std.specs.Prelude.{◌≡◌, Some};
 ghost use Rattle.units.specs.Francs.{hundredths, francs};
 

@@ -1,5 +1,5 @@
-// The backward sweep, for every kind of figure. It allocates nothing: figures stand on the stack, and `room` asks that
-// those of all states fit in memory.
+// The backward sweep, for every kind of figure. It allocates nothing: figures stand in arrays on the stack, as long as any basis
+// wants. `room` asks that they fit in memory, which no ghost field can say, since it sees no size of an associated type.
 ghost use Rattle.std.specs.Prelude.{◌≡◌, ◌*◌, ◌^◌, ◌<◌, ◌≤◌, map, length};
 ghost use Rattle.std.specs.Mem.{type_size};
 ghost use Rattle.basis.specs.Transitions.{moves};

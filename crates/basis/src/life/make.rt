@@ -18,10 +18,10 @@ fn check(deaths: &[i64], factor: i64) -> Result<(), Fault>
     if deaths.is_empty() || deaths.len() > MOST_YEARS {
         return Err(Fault::breach(Rule::Size, 0, 0));
     }
-    if factor < 1 || factor > MILLION as i64 {
+    if factor < 1 || factor > i64::from(MILLION) {
         return Err(Fault::breach(Rule::Factor, 0, 0));
     }
-    match first_outside(deaths, 0, MILLION as i64) {
+    match first_outside(deaths, 0, i64::from(MILLION)) {
         Some(year) => Err(Fault::breach(Rule::Share, year, 0)),
         None => Ok(()),
     }

@@ -36,7 +36,7 @@ impl Columns<'_> {
     fn check_factors(&self) -> Result<(), Fault>
         ensures { MatchResult result (λ _. AllBetween (pos 1) (pos million) self.now.factors.now) (λ fault. UnfitFactor self.now.factors.now fault) }
     {
-        match first_outside(self.factors, 1, MILLION as i64) {
+        match first_outside(self.factors, 1, i64::from(MILLION)) {
             Some(year) => Err(Fault::breach(Rule::Factor, year, 0)),
             None => Ok(()),
         }

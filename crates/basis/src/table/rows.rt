@@ -11,7 +11,7 @@ fn is_lawful(shares: &[i64]) -> bool
 {
     let mut sum = 0;
     for share in shares {
-        if *share < 0 || *share > MILLION as i64 {
+        if *share < 0 || *share > i64::from(MILLION) {
             return false;
         }
         sum += *share as u32;

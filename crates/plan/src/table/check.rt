@@ -28,7 +28,7 @@ fn check_places(column: &[i64], high: i64) -> Result<(), Fault>
     }
 }
 
-// Refuses the first move benefit that is out of range.
+// Refuses the first move benefit that is out of range. Its fault is at the state that is left, eight places to a state.
 fn check_moves(moves: &[i64]) -> Result<(), Fault>
     ensures { MatchResult result (λ _. AllBetween (pos 0) (pos limit) moves.now) (λ fault. UnfitMove moves.now fault) }
 {

@@ -9,7 +9,8 @@ mod tests;
 
 use units::amount::Amount;
 
-// The last year in which a benefit is paid or the premium is due, and the three columns.
+// The last year in which a benefit is paid or the premium is due, and the three columns. Benefits and marks stay apart as they are
+// handed in: pairs of them would want a fill of their own.
 #[derive(Drop)]
 pub struct PaymentTable {
     years: usize,
