@@ -1,4 +1,5 @@
 pub mod Later
+pub mod LifeColumns
 pub mod LifeLaw
 pub mod LifeTables
 pub mod Shifts

@@ -1,10 +1,6 @@
--- The life basis: what it means, what it takes in, and what it refuses. Assumes nothing.
-use Rattle.std.specs.Prelude.{◌≡◌, ℕ, ◌-◌, ◌≤◌, cond, List, map, length, ℤ, pos, vec_items, ◌==◌, nat_lt, slice_index}
+-- The life basis: what it means, and what it holds. Assumes nothing.
+use Rattle.std.specs.Prelude.{◌≡◌, ℕ, ◌-◌, cond, List, map, length, ℤ, pos, vec_items, ◌==◌, nat_lt, slice_index}
 use Rattle.units.specs.Ranges.{million}
-use Rattle.units.specs.Faults.{entry_fault}
-use Rattle.units.specs.declared.fault.Fault.{Fault}
-use Rattle.units.specs.declared.fault.Layer.TheVariants.{Basis}
-use Rattle.units.specs.Columns.{Between, AllBetween, FirstOutside}
 use Rattle.basis.specs.Transitions.{Transitions}
 use Rattle.basis.specs.declared.life.LifeTable.{LifeTable}
 
@@ -29,19 +25,3 @@ life_table s = lives (vec_items s.deaths) s.factor
 pub record Holds (s : LifeTable) (column : List ℤ) (factor : ℤ) : Type 0 where
   pub deaths : map pos (vec_items s.deaths) ≡ column
   pub discount : pos s.factor ≡ factor
-
-pub record FitLength (column : List ℤ) : Type 0 where
-  pub some : 1 ≤ length column
-  pub few : length column ≤ 120
-
--- what a life table can hold
-pub record Fit (column : List ℤ) (factor : ℤ) : Type 0 where
-  pub years : FitLength column
-  pub discount : Between (pos 1) (pos million) factor
-  pub shares : AllBetween (pos 0) (pos million) column
-
--- the first thing that is wrong with what is handed in
-pub data Refuses (column : List ℤ) (factor : ℤ) (fault : Fault) : Type 0 where
-  unfit_length : fault ≡ entry_fault 9 Basis 0 0 → (FitLength column → ⊥) → Refuses column factor fault
-  unfit_factor : fault ≡ entry_fault 10 Basis 0 0 → FitLength column → (Between (pos 1) (pos million) factor → ⊥) → Refuses column factor fault
-  unfit_share : (t : ℕ) → fault ≡ entry_fault 11 Basis t 0 → FitLength column → Between (pos 1) (pos million) factor → FirstOutside (pos 0) (pos million) column t → Refuses column factor fault

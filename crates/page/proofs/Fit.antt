@@ -3,7 +3,7 @@ use Rattle.std.proofs.Common.{arith}
 use borrow.Author.Differences.{ints}
 use Rattle.units.specs.Ranges.{million}
 use Rattle.units.proofs.Ranged.{ranged_between}
-use Rattle.basis.specs.LifeTables.{Fit}
+use Rattle.basis.specs.LifeColumns.{Fit}
 use Rattle.page.specs.SwissMen.{counts, deaths, factor}
 
 pub fit : Fit deaths factor

@@ -1,8 +1,8 @@
 -- Sums over lists. Assumes nothing.
-use Rattle.std.proofs.Common.{◌≡◌, ℕ, zero, suc, ◌+◌, ◌*◌, ◌<◌, ◌≤◌, List, [], ◌∷◌, ◌++◌, map, length, get_or, take, ℤ, pos, ◌+ℤ◌, ◌*ℤ◌, sum_by, refl, ap, ◌∙◌, add-mul, arith}
+use Rattle.std.proofs.Common.{◌≡◌, ℕ, zero, suc, ◌+◌, ◌*◌, ◌<◌, ◌≤◌, List, [], ◌∷◌, ◌++◌, map, length, get_or, take, drop, ℤ, pos, ◌+ℤ◌, ◌*ℤ◌, sum_by, sym, refl, ap, ◌∙◌, add-mul, arith}
 use borrow.Author.Differences.{ints}
 use Rattle.std.specs.List.{range_with_len}
-use Rattle.std.proofs.lemmas.List.{take_more}
+use Rattle.std.proofs.lemmas.List.{take_more, drop_more}
 use Rattle.std.proofs.lemmas.List.Sums.{sum_by-cons}
 use Rattle.units.specs.Near.{Within}
 use Rattle.units.specs.Sums.{int_sum_by}
@@ -41,3 +41,11 @@ int_sum_by_more f xs i d inside = ap (int_sum_by f) (take_more xs i d inside) �
 pub int_sum_by_pos : (xs : List ℕ) → int_sum_by (λ z. z) (map pos xs) ≡ pos (sum_by (λ x. x) xs)
 int_sum_by_pos [] = refl
 int_sum_by_pos (x ∷ xs) = ap (λ z. pos x +ℤ z) (int_sum_by_pos xs) ∙ ap pos (omega (arith, sum_by-cons (λ x. x) x xs))
+
+-- a sum over the places of a list from `start + a` on is the sum of what stands there
+pub sum_by_places : (xs : List ℕ) (start a n : ℕ) → start + a + n ≤ length xs → sum_by (λ j. get_or xs (start + j) 0) (range_with_len a n) ≡ sum_by (λ x. x) (take n (drop (start + a) xs))
+sum_by_places xs start a zero inside = refl
+sum_by_places xs start a (suc n) inside =
+    sum_by-cons (λ j. get_or xs (start + j) 0) a (range_with_len (a + 1) n)
+    ∙ ap (λ z. get_or xs (start + a) 0 + z) (sum_by_places xs start (a + 1) n (omega arith) ∙ ap (λ k. sum_by (λ x. x) (take n (drop k xs))) (omega arith))
+    ∙ sym (ap (λ ys. sum_by (λ x. x) (take (suc n) ys)) (drop_more xs (start + a) 0 (omega arith)) ∙ sum_by-cons (λ x. x) (get_or xs (start + a) 0) (take n (drop (start + a + 1) xs)))

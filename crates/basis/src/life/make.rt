@@ -1,7 +1,8 @@
 // Making a life table, and taking a column in.
 ghost use Rattle.std.specs.Prelude.{◌≡◌, [], ◌∷◌, pos, IfOk, MatchResult};
 ghost use Rattle.units.specs.Ranges.{million};
-ghost use Rattle.basis.specs.LifeTables.{Holds, Fit, Refuses};
+ghost use Rattle.basis.specs.LifeColumns.{Fit, Refuses};
+ghost use Rattle.basis.specs.LifeTables.{Holds};
 
 use super::{LifeTable, MOST_YEARS};
 use crate::fill::refill;

@@ -1,6 +1,6 @@
 // The life basis: one life, which in state 0 goes on and in state 1 has ended.
-ghost use Rattle.std.specs.Prelude.{ℕ, ◌≤◌, vec_len, vec_capacity, slice_index};
-ghost use Rattle.units.specs.Ranges.{million};
+ghost use Rattle.std.specs.Prelude.{◌≤◌, map, pos, vec_capacity};
+ghost use Rattle.basis.specs.LifeColumns.{Fit};
 
 mod basis;
 mod make;
@@ -13,10 +13,6 @@ pub use units::MOST_YEARS;
 pub struct LifeTable {
     deaths: Vec<u32>,
     factor: u32,
-    ghost some: { 1 ≤ vec_len deaths },
-    ghost few: { vec_len deaths ≤ 120 },
+    ghost fit: { Fit (map pos deaths.items) (pos factor) },
     ghost room: { 120 ≤ vec_capacity deaths },
-    ghost shares: { (t : ℕ) → slice_index deaths.items t ≤ million },
-    ghost low: { 1 ≤ factor },
-    ghost high: { factor ≤ million },
 }

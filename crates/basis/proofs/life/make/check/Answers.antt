@@ -1,5 +1,5 @@
 use Rattle.std.proofs.Common.{rules}
-use Rattle.basis.specs.LifeTables.{unfit_share}
+use Rattle.basis.specs.LifeColumns.{unfit_share}
 use Rattle.basis.proofs.life.make.check.Goals as goal
 
 pub returns-in-Some : goal.returns-in-Some
