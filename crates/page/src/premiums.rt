@@ -1,6 +1,7 @@
 // Net single premiums.
 ghost use Rattle.std.specs.Prelude.{◌≡◌, pos, MatchResult};
-ghost use Rattle.plan.specs.Endowments.{endows, Refuses};
+ghost use Rattle.plan.specs.EndowmentTerms.{Refuses};
+ghost use Rattle.plan.specs.Endowments.{endows};
 ghost use Rattle.valuation.specs.Reserves.{reserve};
 
 use basis::Basis;

@@ -1,5 +1,7 @@
 pub mod Annuities
+pub mod AnnuityTerms
 pub mod Bounds
+pub mod EndowmentTerms
 pub mod Endowments
 pub mod PaymentColumns
 pub mod PaymentTables

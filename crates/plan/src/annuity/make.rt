@@ -1,6 +1,7 @@
 // Making an annuity.
 ghost use Rattle.std.specs.Result.{MatchResult};
-ghost use Rattle.plan.specs.Annuities.{Holds, Fit, Refuses};
+ghost use Rattle.plan.specs.Annuities.{Holds};
+ghost use Rattle.plan.specs.AnnuityTerms.{Fit, Refuses};
 
 use super::Annuity;
 use units::amount::Amount;

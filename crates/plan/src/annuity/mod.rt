@@ -1,5 +1,5 @@
 // The annuity: an amount in each of some years that are spent in one state.
-ghost use Rattle.std.specs.Prelude.{◌≤◌};
+ghost use Rattle.plan.specs.AnnuityTerms.{FitYears};
 
 mod make;
 mod plan;
@@ -17,8 +17,5 @@ pub struct Annuity {
     first: usize,
     end: usize,
     paying_years: usize,
-    ghost recipient: { state ≤ 7 },
-    ghost order: { first ≤ end },
-    ghost few: { end ≤ 120 },
-    ghost paying: { paying_years ≤ 120 },
+    ghost years: { FitYears state first end paying_years },
 }

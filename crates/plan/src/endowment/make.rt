@@ -1,6 +1,7 @@
 // Making an endowment.
 ghost use Rattle.std.specs.Result.{MatchResult};
-ghost use Rattle.plan.specs.Endowments.{Holds, Fit, Refuses};
+ghost use Rattle.plan.specs.EndowmentTerms.{Fit, Refuses};
+ghost use Rattle.plan.specs.Endowments.{Holds};
 
 use super::{Endowment, MOST_TERM};
 use units::amount::Amount;

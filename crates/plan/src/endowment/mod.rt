@@ -1,5 +1,5 @@
 // The endowment: a sum at death within the term, or at its end.
-ghost use Rattle.std.specs.Prelude.{◌≤◌};
+ghost use Rattle.plan.specs.EndowmentTerms.{FitYears};
 
 mod make;
 mod plan;
@@ -16,7 +16,5 @@ pub struct Endowment {
     sum: Amount,
     term: usize,
     paying_years: usize,
-    ghost some: { 1 ≤ term },
-    ghost few: { term ≤ 120 },
-    ghost paying: { paying_years ≤ term },
+    ghost years: { FitYears term paying_years },
 }
