@@ -1,8 +1,9 @@
 -- Columns of benefits, marks and move benefits: which are fit, what they pay, and what is first wrong with others. Assumes nothing.
-use Rattle.std.specs.Prelude.{◌≡◌, ℕ, ◌+◌, ◌*◌, ◌<◌, ◌≤◌, Bool, false, cond, ◌&&◌, List, length, ℤ, pos, nat_le, nat_lt, slice_index_or}
+use Rattle.std.specs.Prelude.{◌≡◌, ℕ, ◌+◌, ◌*◌, ◌<◌, ◌≤◌, Bool, true, false, cond, ◌&&◌, List, length, ℤ, pos, nat_le, nat_lt, slice_index_or}
 use Rattle.units.specs.Columns.{AllBetween, FirstOutside}
 use Rattle.units.specs.Faults.{entry_fault}
 use Rattle.units.specs.Ranges.{limit}
+use Rattle.units.specs.declared.amount.Amount.{Amount}
 use Rattle.units.specs.declared.fault.Fault.{Fault}
 use Rattle.units.specs.declared.fault.Layer.TheVariants.{Plan}
 use Rattle.plan.specs.Payments.{Payments}
@@ -21,6 +22,14 @@ tabled k benefits marks moves = record {
   due = λ i t. nat_le t k && (nat_lt i 8 && slice_index_or marks (place i t) false);
   move_benefit = λ i j t. cond (nat_lt t k && (nat_lt i 8 && nat_lt j 8)) (slice_index_or moves (move_place i j t) 0) 0;
 }
+
+-- how a caller writes an amount and a mark
+abbrev pub amount_entry : Amount → ℤ
+amount_entry amount = pos amount.ticks
+
+abbrev pub mark_entry : Bool → ℤ
+mark_entry true = pos 1
+mark_entry false = pos 0
 
 pub record FitSize (k : ℕ) (benefits marks moves : List ℤ) : Type 0 where
   pub few : k ≤ 120

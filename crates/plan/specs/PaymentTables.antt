@@ -1,7 +1,7 @@
 -- The table plan: what it means, and what it holds. Assumes nothing.
-use Rattle.std.specs.Prelude.{◌≡◌, ℕ, Bool, true, false, List, map, ℤ, pos, vec_items}
+use Rattle.std.specs.Prelude.{◌≡◌, ℕ, List, map, ℤ, vec_items}
 use Rattle.units.specs.declared.amount.Amount.{Amount}
-use Rattle.plan.specs.PaymentColumns.{tabled}
+use Rattle.plan.specs.PaymentColumns.{tabled, amount_entry, mark_entry}
 use Rattle.plan.specs.Payments.{Payments}
 use Rattle.plan.specs.declared.table.PaymentTable.{PaymentTable}
 
@@ -10,14 +10,6 @@ ticks amount = amount.ticks
 
 abbrev pub payment_table : PaymentTable → Payments
 payment_table s = tabled s.years (map ticks (vec_items s.benefits)) (vec_items s.marks) (map ticks (vec_items s.moves))
-
--- how a caller writes an amount and a mark
-abbrev pub amount_entry : Amount → ℤ
-amount_entry amount = pos amount.ticks
-
-abbrev pub mark_entry : Bool → ℤ
-mark_entry true = pos 1
-mark_entry false = pos 0
 
 -- the table has exactly these years and columns
 pub record Holds (s : PaymentTable) (k : ℕ) (benefits marks moves : List ℤ) : Type 0 where

@@ -1,5 +1,5 @@
 // Making a table, and taking columns in.
-ghost use Rattle.std.specs.Prelude.{◌≡◌, ℤ, ◌≤◌, [], length, map, replicate, pos, IfOk, vec_len, vec_capacity, MatchResult};
+ghost use Rattle.std.specs.Prelude.{◌≡◌, ℤ, ◌≤◌, [], length, map, replicate, pos, IfOk, vec_capacity, MatchResult};
 ghost use Rattle.units.specs.Ranges.{WithinLimit};
 ghost use Rattle.plan.specs.PaymentColumns.{Fit, Refuses};
 ghost use Rattle.plan.specs.PaymentTables.{Holds};
@@ -18,7 +18,6 @@ fn refill<T: Copy, F: Fn(i64) -> T>(kept: &mut Vec<T>, column: &[i64], read: F)
     requires readable { Readable (F.pre read) column.now }
     requires room { length column.now ≤ vec_capacity kept.old }
     ensures items { (value : T → ℤ) → GivesBack value (F.post read) column.now → map value kept.new.items ≡ column.now }
-    ensures len { vec_len kept.new ≡ length column.now }
     ensures capacity { vec_capacity kept.new ≡ vec_capacity kept.old }
 {
     kept.clear();

@@ -1,5 +1,6 @@
 // The table plan: an amount for each state and each move in each year.
-ghost use Rattle.std.specs.Prelude.{◌≡◌, ◌+◌, ◌*◌, ◌≤◌, vec_len, vec_capacity};
+ghost use Rattle.std.specs.Prelude.{◌≤◌, map, vec_capacity};
+ghost use Rattle.plan.specs.PaymentColumns.{FitSize, amount_entry, mark_entry};
 
 mod check;
 mod make;
@@ -17,10 +18,7 @@ pub struct PaymentTable {
     benefits: Vec<Amount>,
     marks: Vec<bool>,
     moves: Vec<Amount>,
-    ghost few: { years ≤ 120 },
-    ghost benefit_places: { vec_len benefits ≡ 8 * (years + 1) },
-    ghost mark_places: { vec_len marks ≡ 8 * (years + 1) },
-    ghost move_places: { vec_len moves ≡ 64 * years },
+    ghost size: { FitSize years (map amount_entry benefits.items) (map mark_entry marks.items) (map amount_entry moves.items) },
     ghost benefit_room: { 968 ≤ vec_capacity benefits },
     ghost mark_room: { 968 ≤ vec_capacity marks },
     ghost move_room: { 7680 ≤ vec_capacity moves },
