@@ -114,7 +114,6 @@ POINTS = [
     ("3 loops that count an index", lambda: matching(r"for \w+ in 0_?\w*\.\.\w+\.len\(\)|for \w+ in 0\.\.[a-z_0-9]+ \{|\bwhile\b|\bloop\b", tests=True)),
     ("4 impls by hand of equality, order, copying, conversion and printing", lambda: matching(r"^impl.*\b(PartialEq|Eq|PartialOrd|Ord|Clone|Copy|Default|From|TryFrom|Display|Debug)\b.* for ")),
     ("4 conversions and digits by hand", lambda: matching(r"% 10\b|if \w+ < 0 \|\| \w+ > LIMIT|fn \w+\(\w+: i64\) -> Option<")),
-    ("4 casts", lambda: matching(r" as [iu](8|16|32|64|size)\b")),
     ("5 facts in the contracts of three functions", facts),
     ("5 parameters together in three functions", together),
     ("6 buffers with a length beside them", lambda: matching(r"let mut \w+ = \[.*; ")),

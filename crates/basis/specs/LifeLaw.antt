@@ -1,11 +1,11 @@
 -- A life table is a lawful basis, whatever value it has. Assumes nothing.
-use Rattle.std.proofs.Common.{ℕ, ◌<◌, ◌≤◌, length, pos, vec_items, arith}
+use Rattle.std.proofs.Common.{ℕ, ◌<◌, ◌≤◌, length, pos, vec_items, refl, arith}
 use Rattle.std.specs.List.{slice_index}
 use Rattle.std.proofs.lemmas.Bool.Decides.{nat_tests}
 use Rattle.std.proofs.lemmas.Int.{ints}
 use Rattle.std.proofs.lemmas.List.{length-map}
 use Rattle.units.specs.Ranges.{million}
-use Rattle.units.proofs.Ranged.{between_numbers}
+use Rattle.units.proofs.Ranged.{kept_between}
 use Rattle.basis.specs.Transitions.{Lawful}
 use Rattle.basis.specs.LifeTables.{life_table}
 use Rattle.basis.specs.declared.life.LifeTable.{LifeTable}
@@ -15,7 +15,7 @@ life_table_lawful s =
     let years = s.fit.years in
     let least = s.fit.discount.least in
     let most = s.fit.discount.most in
-    let dead : (t : ℕ) → t < length (vec_items s.deaths) → slice_index (vec_items s.deaths) t ≤ million = λ t inside. (between_numbers (vec_items s.deaths) 0 million s.fit.shares t inside).1 in
+    let dead : (t : ℕ) → t < length (vec_items s.deaths) → slice_index (vec_items s.deaths) t ≤ million = λ t inside. (kept_between (vec_items s.deaths) _ 0 million refl s.fit.shares t inside).1 in
     record {
       least_states = omega arith;
       most_states = omega arith;

@@ -1,12 +1,12 @@
 -- A transition table is a lawful basis, whatever value it has. Assumes nothing.
-use Rattle.std.proofs.Common.{◌≡◌, ℕ, ◌+◌, ◌*◌, ◌<◌, ◌≤◌, List, length, get_or, take, drop, pos, map, sum_by, vec_items, vec_len, sym, ap, ◌∙◌, mul-le-mul_right, add-mul, arith}
+use Rattle.std.proofs.Common.{◌≡◌, ℕ, ◌+◌, ◌*◌, ◌<◌, ◌≤◌, List, length, get_or, take, drop, pos, map, sum_by, vec_items, vec_len, sym, ap, ◌∙◌, mul-le-mul_right, add-mul, refl, arith}
 use Rattle.std.specs.List.{slice_index, range_with_len}
 use Rattle.std.proofs.lemmas.Int.{ints}
 use Rattle.std.proofs.Math.Arith.{digits_lt}
 use Rattle.std.proofs.lemmas.Bool.Decides.{nat_tests}
 use Rattle.std.proofs.lemmas.List.{length-map, take-map, drop-map}
 use Rattle.units.specs.Ranges.{million}
-use Rattle.units.proofs.Ranged.{between_numbers}
+use Rattle.units.proofs.Ranged.{kept_between}
 use Rattle.units.specs.Sums.{int_sum_by}
 use Rattle.units.proofs.Sums.{sum_by_counting_same, sum_by_places, int_sum_by_pos}
 use Rattle.basis.specs.Transitions.{Lawful}
@@ -26,7 +26,7 @@ pub transition_table_lawful : (s : TransitionTable) → Lawful (transition_table
 transition_table_lawful s =
     let size = s.fit.size in
     let years = length-map (vec_items s.factors) pos in
-    let factor = between_numbers (vec_items s.factors) 1 million s.fit.discount in
+    let factor = kept_between (vec_items s.factors) _ 1 million refl s.fit.discount in
     record {
       least_states = size.least_states;
       most_states = size.most_states;
