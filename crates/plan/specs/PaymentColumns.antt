@@ -1,5 +1,5 @@
 -- Columns of benefits, marks and move benefits: which are fit, what they pay, and what is first wrong with others. Assumes nothing.
-use Rattle.std.specs.Prelude.{◌≡◌, ℕ, ◌+◌, ◌*◌, ◌<◌, ◌≤◌, Bool, true, false, cond, ◌&&◌, List, length, ℤ, pos, nat_le, nat_lt, slice_index_or}
+use Rattle.std.specs.Prelude.{◌≡◌, ℕ, ◌+◌, ◌*◌, ◌<◌, ◌≤◌, Bool, true, false, cond, ◌&&◌, List, length, ℤ, pos, ◌==◌, nat_le, nat_lt, slice_index_or, unsigned_abs}
 use Rattle.units.specs.Columns.{AllBetween, FirstOutside}
 use Rattle.units.specs.Faults.{entry_fault}
 use Rattle.units.specs.Ranges.{limit}
@@ -15,12 +15,16 @@ place i t = t * 8 + i
 abbrev pub move_place : ℕ → ℕ → ℕ → ℕ
 move_place i j t = place i t * 8 + j
 
+-- the entry at a place, as a number: a fit entry is not below 0
+abbrev pub entry : List ℤ → ℕ → ℕ
+entry column p = unsigned_abs (slice_index_or column p (pos 0))
+
 -- benefits and marks up to year k, move benefits in the years below k, and nothing later
-abbrev pub tabled : ℕ → List ℕ → List Bool → List ℕ → Payments
+abbrev pub tabled : ℕ → List ℤ → List ℤ → List ℤ → Payments
 tabled k benefits marks moves = record {
-  benefit = λ i t. cond (nat_le t k && nat_lt i 8) (slice_index_or benefits (place i t) 0) 0;
-  due = λ i t. nat_le t k && (nat_lt i 8 && slice_index_or marks (place i t) false);
-  move_benefit = λ i j t. cond (nat_lt t k && (nat_lt i 8 && nat_lt j 8)) (slice_index_or moves (move_place i j t) 0) 0;
+  benefit = λ i t. cond (nat_le t k && nat_lt i 8) (entry benefits (place i t)) 0;
+  due = λ i t. nat_le t k && (nat_lt i 8 && entry marks (place i t) == 1);
+  move_benefit = λ i j t. cond (nat_lt t k && (nat_lt i 8 && nat_lt j 8)) (entry moves (move_place i j t)) 0;
 }
 
 -- how a caller writes an amount and a mark
