@@ -1,5 +1,5 @@
--- Natural and whole numbers. Assumes nothing.
-use Rattle.std.proofs.Common.{◌≡◌, ℕ, ◌+◌, ◌*◌, ◌≤◌, ℤ, pos, negsuc, ◌+ℤ◌, ◌*ℤ◌, ◌≤ℤ◌, unsigned_abs, mul-le-mul_left, mul-add, arith}
+-- A natural number times a whole number. Assumes nothing.
+use Rattle.std.proofs.Common.{◌≡◌, ℕ, ◌+◌, ◌*◌, ℤ, pos, ◌+ℤ◌, ◌*ℤ◌, ◌≤ℤ◌, mul-le-mul_left, mul-add, arith}
 use borrow.Author.Differences.{ints, up, down, sum_is_lem, le_out}
 
 spread : (n u a b d x y : ℕ) → u + a + b ≡ d + x + y → n * u + n * a + n * b ≡ n * d + n * x + n * y
@@ -10,8 +10,3 @@ times_add n a b = omega (arith, ints, spread n (up (a +ℤ b)) (down a) (down b)
 
 pub times_le : (n : ℕ) (a b : ℤ) → a ≤ℤ b → (pos n *ℤ a) ≤ℤ (pos n *ℤ b)
 times_le n a b h = omega (arith, ints, mul-le-mul_left n (le_out a b h), mul-add n (up a) (down b), mul-add n (up b) (down a))
-
--- a whole number from 0 to a bound, as a natural number
-pub most_entry : (z : ℤ) (high : ℕ) → (pos 0) ≤ℤ z → z ≤ℤ (pos high) → unsigned_abs z ≤ high
-most_entry (pos n) high low most = omega (arith, ints, most)
-most_entry (negsuc n) high low most = absurd (omega (arith, ints, low))

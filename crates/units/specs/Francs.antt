@@ -1,10 +1,10 @@
 -- An amount in francs with two decimals. Assumes nothing.
-use Rattle.std.specs.Prelude.{ℕ, suc, ◌/◌, ◌%◌, List, ◌∷◌, ◌++◌, ℤ, pos, negsuc, ◌+ℤ◌, decimal}
-use Rattle.std.specs.Int.{int_div_euclid}
+use Rattle.std.specs.Prelude.{ℕ, suc, ◌/◌, ◌%◌, List, ◌∷◌, ◌++◌, ℤ, pos, negsuc, decimal}
+use Rattle.units.specs.Rounding.{rounded}
 
 -- ticks in hundredths of a franc, to the nearest, halves upwards
 abbrev pub hundredths : ℤ → ℤ
-hundredths ticks = int_div_euclid (ticks +ℤ pos 50) (pos 100)
+hundredths = rounded 100
 
 -- so many hundredths, with a point and two digits after it
 abbrev pub two_decimals : ℕ → List ℕ

@@ -9,7 +9,7 @@ rounded parts a = int_div_euclid (a +ℤ pos (parts / 2)) (pos parts)
 
 -- millionths to the nearest whole, halves upwards: (a + 500,000) / 1,000,000, rounded down
 abbrev pub nearest : ℤ → ℤ
-nearest a = int_div_euclid (a +ℤ pos 500000) (pos 1000000)
+nearest = rounded 1000000
 
 -- what rounding of millionths to the nearest whole number gives
 pub record ToNearest (round : ℤ → ℤ) : Type 0 where

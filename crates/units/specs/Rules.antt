@@ -29,5 +29,5 @@ rule_text number =
     (codes "a rule is broken"))))
 
 -- the rule of a number, or that number back where it stands for no rule
-abbrev pub Numbered : ℕ → Result Rule UnknownRule → Type 0
-Numbered number result = MatchResult result (λ rule. rule_number rule ≡ number) (λ unknown. (unknown.0 ≡ number) × ((rule : Rule) → rule_number rule ≡ number → ⊥))
+abbrev pub Decodes : ℕ → Result Rule UnknownRule → Type 0
+Decodes number result = MatchResult result (λ rule. rule_number rule ≡ number) (λ unknown. (unknown.0 ≡ number) × ((rule : Rule) → rule_number rule ≡ number → ⊥))

@@ -1,4 +1,4 @@
-// An amount of a plan, which lies from 0 to the limit.
+// An amount of a plan or a premium, which lies from 0 to the limit.
 ghost use Rattle.std.specs.Prelude.{◌≡◌, ◌≤◌, pos, MatchOption, MatchResult, codes, Some};
 ghost use Rattle.units.specs.Ranges.{limit, WithinLimit};
 
@@ -13,7 +13,7 @@ pub struct Amount {
 }
 
 impl Amount {
-    // The amount of so many ticks, where they lie in the range of an amount.
+    // The amount of so many ticks, where they lie in the range of an amount. It stays beside `try_from`, which names an error.
     pub fn new(ticks: i64) -> Option<Amount>
         ensures { MatchOption result (WithinLimit ticks → ⊥) (λ p. pos p.ticks ≡ ticks) }
     {
@@ -52,6 +52,7 @@ impl TryFrom<i64> for Amount {
     }
 }
 
+// By hand: of what a derived display writes, a contract could say nothing.
 impl fmt::Display for OutsideLimit {
     ghost output = { λ _. Some (codes "an amount is outside 0 to the limit") };
 

@@ -31,6 +31,7 @@ impl From<AllocError> for Failure {
     }
 }
 
+// By hand: of what a derived display writes, a contract could say nothing.
 impl fmt::Display for Failure {
     ghost output = { λ x. Some (failure_text x) };
 

@@ -38,7 +38,7 @@ impl Fault {
         Fault::at_entry(rule.number(), rule.layer(), year, state)
     }
 
-    // A fault of any number at a year and a state. It stands beside `breach`, which asks for a rule.
+    // A fault of any number at a year and a state. It stays beside `breach`, since a rule would be narrower than a number.
     pub fn at_entry(number: u8, layer: Layer, year: usize, state: usize) -> Fault
         ensures { result ≡ entry_fault number layer year state }
     {

@@ -1,4 +1,4 @@
-// What all other crates count in: ticks, parts of a million, premiums, and the fault that every refusal is.
+// What all other crates count in: ticks, parts of a million, amounts, and the rules and the fault that every refusal names.
 #![tactic(auto)]
 
 pub mod amount;

@@ -1,6 +1,6 @@
 // The rules whose breach is told by a year and a state, each under the number that callers know it by.
 ghost use Rattle.std.specs.Prelude.{◌≡◌, Some, ◌++◌, codes, decimal};
-ghost use Rattle.units.specs.Rules.{rule_number, rule_layer, rule_text, Numbered};
+ghost use Rattle.units.specs.Rules.{rule_number, rule_layer, rule_text, Decodes};
 
 use crate::fault::Layer;
 use std::error::Error;
@@ -58,7 +58,7 @@ pub struct UnknownRule(pub u8);
 impl TryFrom<u8> for Rule {
     type Error = UnknownRule;
 
-    ghost try_from_gives = { Numbered };
+    ghost try_from_gives = { Decodes };
 
     fn try_from(number: u8) -> Result<Rule, UnknownRule> {
         match number {
@@ -71,6 +71,7 @@ impl TryFrom<u8> for Rule {
     }
 }
 
+// By hand, as the next: of what a derived display writes, a contract could say nothing.
 impl fmt::Display for Rule {
     ghost output = { λ x. Some (rule_text (rule_number x)) };
 

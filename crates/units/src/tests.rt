@@ -40,6 +40,8 @@ fn amounts_lie_from_nought_to_the_limit(rt: HostRuntime) -> Result<(), Fail> {
     for ticks in [-1, 10_000_000_001, i64::MIN, i64::MAX] {
         assert_eq!(rt; Amount::try_from(ticks), Err(OutsideLimit(ticks)));
     }
+    let outside = OutsideLimit(-1).to_string(rt.alloc())?;
+    assert!(rt; outside.as_str() == "an amount is outside 0 to the limit");
     Ok(())
 }
 
@@ -57,9 +59,13 @@ fn rules_go_by_their_numbers(rt: HostRuntime) -> Result<(), Fail> {
         assert_eq!(rt; Fault::breach(rule, 7, 3), fault);
         let told = fault.to_string(rt.alloc())?;
         assert!(rt; told.as_str().ends_with(rule.words()));
+        let shown = rule.to_string(rt.alloc())?;
+        assert!(rt; shown.as_str() == rule.words());
     }
     assert_eq!(rt; Rule::try_from(8), Err(UnknownRule(8)));
     assert_eq!(rt; Rule::try_from(13), Err(UnknownRule(13)));
+    let unknown = UnknownRule(13).to_string(rt.alloc())?;
+    assert!(rt; unknown.as_str() == "no rule goes by 13");
     Ok(())
 }
 
