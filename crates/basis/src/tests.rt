@@ -5,6 +5,7 @@ use crate::shift::AgeShift;
 use std::test::Fail;
 use units::fault::{Fault, Layer};
 
+// What a basis is refused with. The plans have a like one, since crates share no code of their tests.
 pub(crate) fn refused(number: u8, year: usize, state: usize) -> Result<(), Fault> {
     Err(Fault::at_entry(number, Layer::Basis, year, state))
 }

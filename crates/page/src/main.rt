@@ -27,6 +27,7 @@ const TERM: usize = 5;
 
 const PREMIUM: i64 = 93_752_200;
 
+// A row of figures as in the other program, of which the two share no crate.
 fn print_row(rt: &HostRuntime, lives: &AgeShift<LifeTable>, age: usize) -> anyhow::Result<()> {
     print!(rt; "{age:>3}")?;
     for term in TERMS {

@@ -1,8 +1,8 @@
 // The backward sweep, for every kind of figure. It allocates nothing: figures stand in arrays on the stack, as long as any basis
-// wants. `room` asks that they fit in memory, which no ghost field can say, since it sees no size of an associated type.
-ghost use Rattle.std.specs.Prelude.{◌≡◌, ◌*◌, ◌^◌, ◌<◌, ◌≤◌, map, length};
+// wants. `room` asks that they fit in memory, which no ghost field can say, since it sees no size of an unknown type. A slice to fill
+// is handed on at once, so that its length stays a clause.
+ghost use Rattle.std.specs.Prelude.{◌≡◌, ◌*◌, ◌^◌, ◌<◌, ◌≤◌, length};
 ghost use Rattle.std.specs.Mem.{type_size};
-ghost use Rattle.basis.specs.Transitions.{moves};
 ghost use Rattle.valuation.specs.Figures.{flow, figure, figures_of};
 
 use crate::Valuation;
@@ -60,6 +60,7 @@ impl<'a, V: Valuation, B: Basis, P: Plan> Sweep<'a, V, B, P> {
         for earlier in (year..self.basis.years()).rev() {
             after.copy_from_slice(figures);
             Year {
+                // Lent anew: the year ends within the loop.
                 sweep: &*self,
                 year: earlier,
                 after,

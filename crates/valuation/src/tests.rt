@@ -8,10 +8,8 @@ use units::premium::Premium;
 
 fn reserve_of(table: &LifeTable, ticks: i64, state: usize, year: usize) -> Result<i64, Fail> {
     let plan = Endowment::new(1_000_000, 2, 2)?;
-    match Premium::new(ticks) {
-        Some(premium) => Ok(reserve(table, &plan, premium, state, year)),
-        None => Err(Fail::new("a premium out of range")),
-    }
+    let premium = Premium::try_from(ticks)?;
+    Ok(reserve(table, &plan, premium, state, year))
 }
 
 #[test]

@@ -51,16 +51,12 @@ impl<B: Basis> Basis for AgeShift<B> {
     }
 
     fn factor(&self, year: usize) -> u32 {
-        match self.year_below(year) {
-            Some(t) => self.below.factor(t),
-            None => MILLION,
-        }
+        self.year_below(year)
+            .map_or(MILLION, |t| self.below.factor(t))
     }
 
     fn share(&self, from: usize, to: usize, year: usize) -> u32 {
-        match self.year_below(year) {
-            Some(t) => self.below.share(from, to, t),
-            None => 0,
-        }
+        self.year_below(year)
+            .map_or(0, |t| self.below.share(from, to, t))
     }
 }

@@ -20,10 +20,7 @@ impl Basis for TransitionTable {
     }
 
     fn factor(&self, year: usize) -> u32 {
-        match self.factors.get(year) {
-            Some(factor) => *factor,
-            None => MILLION,
-        }
+        self.factors.get(year).copied().unwrap_or(MILLION)
     }
 
     fn share(&self, from: usize, to: usize, year: usize) -> u32 {

@@ -24,7 +24,7 @@ impl Annuity {
         if state >= MOST_STATES || first > end || end > MOST_YEARS || paying_years > MOST_YEARS {
             return Err(Fault::breach(Rule::Payment, 0, 0));
         }
-        let amount = Amount::new(amount).ok_or(Fault::breach(Rule::Payment, first, state))?;
+        let amount = Amount::new(amount).ok_or_else(|| Fault::breach(Rule::Payment, first, state))?;
         Ok(Annuity {
             amount,
             state,

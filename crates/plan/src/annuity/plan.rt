@@ -18,6 +18,7 @@ impl Plan for Annuity {
         }
     }
 
+    // As for an endowment, whose other answers differ: a comparison is as short as a call.
     fn due(&self, state: usize, year: usize) -> bool {
         state == 0 && year < self.paying_years
     }

@@ -16,7 +16,7 @@ impl Endowment {
         if term < 1 || term > MOST_TERM || paying_years > term {
             return Err(Fault::breach(Rule::Payment, 0, 0));
         }
-        let sum = Amount::new(sum).ok_or(Fault::breach(Rule::Payment, term, 0))?;
+        let sum = Amount::new(sum).ok_or_else(|| Fault::breach(Rule::Payment, term, 0))?;
         Ok(Endowment {
             sum,
             term,

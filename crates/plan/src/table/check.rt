@@ -18,7 +18,8 @@ fn fault_at(place: usize) -> Fault
     Fault::breach(Rule::Payment, place / MOST_STATES, place % MOST_STATES)
 }
 
-// Refuses the first benefit or mark that is not from 0 to `high`.
+// Refuses the first benefit or mark that is not from 0 to `high`. A `match` as in each check: a function of what was found and of its
+// fault would say no less.
 fn check_places(column: &[i64], high: i64) -> Result<(), Fault>
     ensures { MatchResult result (λ _. AllBetween (pos 0) high column.now) (λ fault. UnfitPlace high column.now fault) }
 {

@@ -3,7 +3,7 @@ ghost use Rattle.std.specs.Prelude.{◌≡◌, ℤ, ◌≤◌, [], length, map, 
 ghost use Rattle.units.specs.Ranges.{WithinLimit};
 ghost use Rattle.plan.specs.PaymentColumns.{Fit, Refuses};
 ghost use Rattle.plan.specs.PaymentTables.{Holds};
-ghost use Rattle.plan.specs.Readings.{Readable, GivesBack};
+ghost use Rattle.plan.specs.Readings.{MayReadEach, GivesBack};
 
 use super::PaymentTable;
 use super::check::Columns;
@@ -13,9 +13,9 @@ use units::fault::Fault;
 use units::{MOST_STATES, MOST_YEARS};
 
 // Puts what the entries of `column` stand for in place of those that are kept, within the memory that there is.
-// A public function may ask nothing of its callers, so the crates cannot share one that asks for room.
+// A public function may ask nothing of its callers, so the crates cannot share one that asks for entries it can read.
 fn refill<T: Copy, F: Fn(i64) -> T>(kept: &mut Vec<T>, column: &[i64], read: F)
-    requires readable { Readable (F.pre read) column.now }
+    requires readable { MayReadEach (F.pre read) column.now }
     requires room { length column.now ≤ vec_capacity kept.old }
     ensures items { (value : T → ℤ) → GivesBack value (F.post read) column.now → map value kept.new.items ≡ column.now }
     ensures capacity { vec_capacity kept.new ≡ vec_capacity kept.old }

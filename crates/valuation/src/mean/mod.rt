@@ -26,7 +26,7 @@ fn round_mean(sum: i64) -> i64
     nearest(sum)
 }
 
-// How a discounted amount, in millionths of a tick, is rounded.
+// How a discounted amount, in millionths of a tick, is rounded: by a name of its own, so that either rounding can change alone.
 fn round_discount(product: i64) -> i64
     ensures { result ≡ rounded_discount product }
 {

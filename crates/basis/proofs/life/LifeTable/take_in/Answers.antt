@@ -1,4 +1,4 @@
-use Rattle.std.proofs.Common.{◌≡◌, pos, refl, arith, w64, SFits, unsigned_abs}
+use Rattle.std.proofs.Common.{◌≡◌, pos, refl, arith, rules, w64, SFits, unsigned_abs}
 use borrow.Author.Differences.{ints}
 use Rattle.std.proofs.lemmas.Result.{err_from_is_err_and}
 use Rattle.std.proofs.lemmas.Int.{to_z-of_z}
@@ -17,4 +17,5 @@ invariant_of-self c =
     let fits : SFits w64 c.args.factor = c.ranges.factor in
     let fit = simp to_z-of_z at c.in_ok-check.ensures in
     let factor : pos (unsigned_abs c.args.factor) ≡ c.args.factor = omega (arith, ints, fit.discount.least) in
-    record { fit = simp to_z-of_z (rw (c.refill.ensures.items, factor) fit); room = omega arith }
+    let held = rw (← c.refill.ensures.items, ← factor) at fit in
+    record { fit = search rules; room = omega arith }

@@ -1,4 +1,4 @@
-use Rattle.std.proofs.Common.{◌≡◌, length, pos, vec_len, sym, refl, ap, ◌∙◌, arith}
+use Rattle.std.proofs.Common.{◌≡◌, length, pos, vec_len, sym, refl, ap, ◌∙◌, arith, rules}
 use Rattle.std.proofs.lemmas.List.{length-map}
 use Rattle.std.proofs.lemmas.Result.{err_from_is_err_and}
 use Rattle.basis.proofs.Rows.{unfit, fit_entries, most_places}
@@ -22,8 +22,9 @@ invariant_of-self c =
     let fit = c.in_ok-check.ensures in
     let factors = c.refill.ensures.items in
     let years : vec_len c.refill.new.parts ≡ c.args.years = c.refill.new.parts.ok.0 ∙ sym (length-map _ pos) ∙ ap length factors ∙ fit.size.factor_places in
+    let held = rw (← years, ← factors, ← c.refill-2.ensures.items) at fit in
     record {
-      fit = rw (years, factors, c.refill-2.ensures.items) fit;
+      fit = search rules;
       factor_room = omega (arith, c.refill.ensures.capacity);
       share_room = omega (arith, c.refill-2.ensures.capacity);
     }
