@@ -60,7 +60,7 @@ def twins():
         return [w if w in keep or not re.match(r"\w", w) else "_" for w in words]
 
     all_of = [(name, shape(code)) for name, _, _, code in functions(tests=True)]
-    all_of = [(name, s) for name, s in all_of if len(s) >= 12 and "test" not in name.split(": ")[0] or "refused" in name]
+    all_of = [(name, s) for name, s in all_of if len(s) >= 10 and "test" not in name.split(": ")[0] or "refused" in name]
     found = []
     for i, (a, s) in enumerate(all_of):
         for b, t in all_of[i + 1 :]:
@@ -76,6 +76,7 @@ def facts():
         for clause in clauses:
             fact = re.sub(r"^(requires|ensures)\*? *\w* *\{ *|\.(now|old|new)\b| *\}$", "", clause)
             fact = re.sub(r"^length \w+", "length of a slice", fact)
+            fact = re.sub(r"\b(self|sweep)\.|\b([BPV])\.(Basis|Plan|Valuation)\.", lambda m: f"{m.group(2)}." if m.group(2) else "", fact)
             where[fact].add(name)
     return [f"{len(names)} functions: {fact}" for fact, names in where.items() if len(names) >= 3]
 

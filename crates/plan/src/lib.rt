@@ -6,6 +6,7 @@ ghost use Rattle.plan.specs.Payments.{Payments, InRange};
 
 pub mod annuity;
 pub mod endowment;
+mod paying;
 pub mod table;
 #[cfg(test)]
 mod tests;

@@ -4,6 +4,7 @@ ghost use Rattle.plan.specs.Bounds.{annuity_bounded};
 
 use super::Annuity;
 use crate::Plan;
+use crate::paying::is_paying;
 
 impl Plan for Annuity {
     ghost payments = { annuity };
@@ -18,9 +19,8 @@ impl Plan for Annuity {
         }
     }
 
-    // As for an endowment, whose other answers differ: a comparison is as short as a call.
     fn due(&self, state: usize, year: usize) -> bool {
-        state == 0 && year < self.paying_years
+        is_paying(state, year, self.paying_years)
     }
 
     fn move_benefit(&self, _from: usize, _to: usize, _year: usize) -> u64 {

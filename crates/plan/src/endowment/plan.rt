@@ -4,6 +4,7 @@ ghost use Rattle.plan.specs.Bounds.{endowment_bounded};
 
 use super::Endowment;
 use crate::Plan;
+use crate::paying::is_paying;
 
 impl Plan for Endowment {
     ghost payments = { endowment };
@@ -19,7 +20,7 @@ impl Plan for Endowment {
     }
 
     fn due(&self, state: usize, year: usize) -> bool {
-        state == 0 && year < self.paying_years
+        is_paying(state, year, self.paying_years)
     }
 
     fn move_benefit(&self, from: usize, to: usize, year: usize) -> u64 {
