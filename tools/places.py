@@ -60,7 +60,7 @@ def twins():
         return [w if w in keep or not re.match(r"\w", w) else "_" for w in words]
 
     all_of = [(name, shape(code)) for name, _, _, code in functions(tests=True)]
-    all_of = [(name, s) for name, s in all_of if len(s) >= 10 and "test" not in name.split(": ")[0] or "refused" in name]
+    all_of = [(name, s) for name, s in all_of if len(s) >= 12 and "test" not in name.split(": ")[0] or "refused" in name]
     found = []
     for i, (a, s) in enumerate(all_of):
         for b, t in all_of[i + 1 :]:
