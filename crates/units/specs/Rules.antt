@@ -22,10 +22,10 @@ rule_layer Payment = Plan
 -- the rule that a number stands for
 abbrev pub rule_text : ℕ → List ℕ
 rule_text number =
-    cond (number == 9) (codes "the number of years or the length of a column is unfit")
+    cond (number == 9) (codes "the number of states or years or the length of a column is unfit")
     (cond (number == 10) (codes "a factor is outside 1 to a million")
-    (cond (number == 11) (codes "a share is outside 0 to a million")
-    (cond (number == 12) (codes "the years of a plan are unfit or an amount is outside 0 to the limit")
+    (cond (number == 11) (codes "a share is outside 0 to a million or a row misses the million")
+    (cond (number == 12) (codes "a year, a state or the length of a column of a plan is unfit or an entry is out of range")
     (codes "a rule is broken"))))
 
 -- the rule of a number, or that number back where it stands for no rule

@@ -43,10 +43,11 @@ impl Rule {
         ensures { result.now ≡ rule_text (rule_number self) }
     {
         match self {
-            Rule::Size => "the number of years or the length of a column is unfit",
+            Rule::Size => "the number of states or years or the length of a column is unfit",
             Rule::Factor => "a factor is outside 1 to a million",
-            Rule::Share => "a share is outside 0 to a million",
-            Rule::Payment => "the years of a plan are unfit or an amount is outside 0 to the limit",
+            Rule::Share => "a share is outside 0 to a million or a row misses the million",
+            Rule::Payment =>
+                "a year, a state or the length of a column of a plan is unfit or an entry is out of range",
         }
     }
 }

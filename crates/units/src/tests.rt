@@ -71,12 +71,38 @@ fn rules_go_by_their_numbers(rt: HostRuntime) -> Result<(), Fail> {
 
 #[test]
 fn failures_are_told_in_words(rt: HostRuntime) -> Result<(), Fail> {
-    let fault = Fault::at_entry(11, Layer::Basis, 3, 0);
-    let refused = Failure::Refused(fault).to_string(rt.alloc())?;
-    assert!(rt;
-        refused.as_str()
-            == "refused with 11 by the basis at year 3, state 0: a share is outside 0 to a million"
-    );
+    let cases = [
+        (
+            9,
+            Layer::Basis,
+            "refused with 9 by the basis at year 3, state 0: the number of states or years or the length of a column is unfit",
+        ),
+        (
+            10,
+            Layer::Basis,
+            "refused with 10 by the basis at year 3, state 0: a factor is outside 1 to a million",
+        ),
+        (
+            11,
+            Layer::Basis,
+            "refused with 11 by the basis at year 3, state 0: a share is outside 0 to a million or a row misses the million",
+        ),
+        (
+            12,
+            Layer::Plan,
+            "refused with 12 by the plan at year 3, state 0: a year, a state or the length of a column of a plan is unfit or an entry is out of range",
+        ),
+        (
+            255,
+            Layer::Contract,
+            "refused with 255 by the contract at year 3, state 0: a rule is broken",
+        ),
+    ];
+    for (number, layer, words) in cases {
+        let fault = Fault::at_entry(number, layer, 3, 0);
+        let told = Failure::Refused(fault).to_string(rt.alloc())?;
+        assert!(rt; told.as_str() == words);
+    }
     let memory = Failure::NoMemory.to_string(rt.alloc())?;
     assert!(rt; memory.as_str() == "no memory");
     Ok(())
