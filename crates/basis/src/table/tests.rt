@@ -1,6 +1,7 @@
 // A table at the edges of its rules.
 use super::TransitionTable;
 use crate::Basis;
+use crate::shift::AgeShift;
 use crate::tests::refused;
 use std::test::Fail;
 
@@ -143,6 +144,24 @@ fn takes_in_eight_states_and_120_years(rt: HostRuntime) -> Result<(), Fail> {
             table.share(7, 0, 120),
         ),
         (1_000_000, 0, 0)
+    );
+    Ok(())
+}
+
+#[test]
+fn is_entered_at_a_later_age(rt: HostRuntime) -> Result<(), Fail> {
+    let mut table = TransitionTable::new(rt.alloc())?;
+    table.take_in(3, 2, &FACTORS, &SHARES)?;
+    let shift = AgeShift::new(table, 1);
+    assert_eq!(rt; (shift.states(), shift.years()), (3, 1));
+    assert_eq!(rt; (shift.factor(0), shift.factor(1)), (960_000, 1_000_000));
+    assert_eq!(rt;
+        (
+            shift.share(0, 1, 0),
+            shift.share(1, 0, 0),
+            shift.share(0, 1, 1),
+        ),
+        (80_000, 150_000, 0)
     );
     Ok(())
 }
