@@ -48,19 +48,39 @@ fn amounts_lie_from_nought_to_the_limit(rt: HostRuntime) -> Result<(), Fail> {
 #[test]
 fn rules_go_by_their_numbers(rt: HostRuntime) -> Result<(), Fail> {
     let cases = [
-        (9, Rule::Size, Layer::Basis),
-        (10, Rule::Factor, Layer::Basis),
-        (11, Rule::Share, Layer::Basis),
-        (12, Rule::Payment, Layer::Plan),
+        (
+            9,
+            Rule::Size,
+            Layer::Basis,
+            "the number of states or years or the length of a column is unfit",
+        ),
+        (
+            10,
+            Rule::Factor,
+            Layer::Basis,
+            "a factor is outside 1 to a million",
+        ),
+        (
+            11,
+            Rule::Share,
+            Layer::Basis,
+            "a share is outside 0 to a million or a row misses the million",
+        ),
+        (
+            12,
+            Rule::Payment,
+            Layer::Plan,
+            "a year, a state or the length of a column of a plan is unfit or an entry is out of range",
+        ),
     ];
-    for (number, rule, layer) in cases {
+    for (number, rule, layer, words) in cases {
         assert_eq!(rt; Rule::try_from(number), Ok(rule));
         let fault = Fault::at_entry(number, layer, 7, 3);
         assert_eq!(rt; Fault::breach(rule, 7, 3), fault);
         let told = fault.to_string(rt.alloc())?;
-        assert!(rt; told.as_str().ends_with(rule.words()));
+        assert!(rt; told.as_str().ends_with(words));
         let shown = rule.to_string(rt.alloc())?;
-        assert!(rt; shown.as_str() == rule.words());
+        assert!(rt; shown.as_str() == words);
     }
     assert_eq!(rt; Rule::try_from(8), Err(UnknownRule(8)));
     assert_eq!(rt; Rule::try_from(13), Err(UnknownRule(13)));
@@ -73,37 +93,18 @@ fn rules_go_by_their_numbers(rt: HostRuntime) -> Result<(), Fail> {
 fn failures_are_told_in_words(rt: HostRuntime) -> Result<(), Fail> {
     let cases = [
         (
-            9,
-            Layer::Basis,
-            "refused with 9 by the basis at year 3, state 0: the number of states or years or the length of a column is unfit",
-        ),
-        (
-            10,
-            Layer::Basis,
+            Failure::Refused(Fault::at_entry(10, Layer::Basis, 3, 0)),
             "refused with 10 by the basis at year 3, state 0: a factor is outside 1 to a million",
         ),
         (
-            11,
-            Layer::Basis,
-            "refused with 11 by the basis at year 3, state 0: a share is outside 0 to a million or a row misses the million",
+            Failure::Refused(Fault::at_entry(255, Layer::Contract, 0, 7)),
+            "refused with 255 by the contract at year 0, state 7: a rule is broken",
         ),
-        (
-            12,
-            Layer::Plan,
-            "refused with 12 by the plan at year 3, state 0: a year, a state or the length of a column of a plan is unfit or an entry is out of range",
-        ),
-        (
-            255,
-            Layer::Contract,
-            "refused with 255 by the contract at year 3, state 0: a rule is broken",
-        ),
+        (Failure::NoMemory, "no memory"),
     ];
-    for (number, layer, words) in cases {
-        let fault = Fault::at_entry(number, layer, 3, 0);
-        let told = Failure::Refused(fault).to_string(rt.alloc())?;
+    for (failure, words) in cases {
+        let told = failure.to_string(rt.alloc())?;
         assert!(rt; told.as_str() == words);
     }
-    let memory = Failure::NoMemory.to_string(rt.alloc())?;
-    assert!(rt; memory.as_str() == "no memory");
     Ok(())
 }
