@@ -3,7 +3,7 @@ use Rattle.std.proofs.Common.{◌≡◌, ℕ, codes, arith}
 use Rattle.std.proofs.lemmas.Bool.Decides.{nat_tests}
 use Rattle.units.specs.Rules.{rule_number, rule_text}
 use Rattle.units.specs.declared.rule.Rule.{Rule}
-use Rattle.units.specs.declared.rule.Rule.TheVariants.{Size, Factor, Share, Payment}
+use Rattle.units.specs.declared.rule.Rule.TheVariants.{Size, Factor, Share, Payment, Premium, Course}
 
 pub words_of_no_rule : (number : ℕ) → ((rule : Rule) → rule_number rule ≡ number → ⊥) → rule_text number ≡ codes "a rule is broken"
 words_of_no_rule number none =
@@ -11,4 +11,6 @@ words_of_no_rule number none =
     let factor = none Factor in
     let share = none Share in
     let payment = none Payment in
+    let premium = none Premium in
+    let course = none Course in
     grind (arith, nat_tests)

@@ -1,9 +1,9 @@
 -- The rules by their numbers: which part of the engine checks each, and its words. Assumes nothing.
 use Rattle.std.specs.Prelude.{◌≡◌, ℕ, cond, List, codes, ◌==◌, Result, MatchResult}
 use Rattle.units.specs.declared.fault.Layer.{Layer}
-use Rattle.units.specs.declared.fault.Layer.TheVariants.{Basis, Plan}
+use Rattle.units.specs.declared.fault.Layer.TheVariants.{Basis, Plan, Contract}
 use Rattle.units.specs.declared.rule.Rule.{Rule}
-use Rattle.units.specs.declared.rule.Rule.TheVariants.{Size, Factor, Share, Payment}
+use Rattle.units.specs.declared.rule.Rule.TheVariants.{Size, Factor, Share, Payment, Premium, Course}
 use Rattle.units.specs.declared.rule.UnknownRule.{UnknownRule}
 
 abbrev pub rule_number : Rule → ℕ
@@ -11,6 +11,8 @@ rule_number Size = 9
 rule_number Factor = 10
 rule_number Share = 11
 rule_number Payment = 12
+rule_number Premium = 20
+rule_number Course = 22
 
 -- the part of the engine that checks a rule
 abbrev pub rule_layer : Rule → Layer
@@ -18,6 +20,8 @@ rule_layer Size = Basis
 rule_layer Factor = Basis
 rule_layer Share = Basis
 rule_layer Payment = Plan
+rule_layer Premium = Contract
+rule_layer Course = Contract
 
 -- the rule that a number stands for
 abbrev pub rule_text : ℕ → List ℕ
@@ -26,7 +30,9 @@ rule_text number =
     (cond (number == 10) (codes "a factor is outside 1 to a million")
     (cond (number == 11) (codes "a share is outside 0 to a million or a row misses the million")
     (cond (number == 12) (codes "a year, a state or the length of a column of a plan is unfit or an entry is out of range")
-    (codes "a rule is broken"))))
+    (cond (number == 20) (codes "no premium from 0 to the limit will do")
+    (cond (number == 22) (codes "the column for the course is too short")
+    (codes "a rule is broken"))))))
 
 -- the rule of a number, or that number back where it stands for no rule
 abbrev pub Decodes : ℕ → Result Rule UnknownRule → Type 0

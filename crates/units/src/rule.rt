@@ -14,6 +14,10 @@ pub enum Rule {
     Share,
     // All that a plan is made of.
     Payment,
+    // That some premium in range suffices.
+    Premium,
+    // That the course fits into the column for it.
+    Course,
 }
 
 impl Rule {
@@ -25,6 +29,8 @@ impl Rule {
             Rule::Factor => 10,
             Rule::Share => 11,
             Rule::Payment => 12,
+            Rule::Premium => 20,
+            Rule::Course => 22,
         }
     }
 
@@ -35,6 +41,7 @@ impl Rule {
         match self {
             Rule::Size | Rule::Factor | Rule::Share => Layer::Basis,
             Rule::Payment => Layer::Plan,
+            Rule::Premium | Rule::Course => Layer::Contract,
         }
     }
 
@@ -48,6 +55,8 @@ impl Rule {
             Rule::Share => "a share is outside 0 to a million or a row misses the million",
             Rule::Payment =>
                 "a year, a state or the length of a column of a plan is unfit or an entry is out of range",
+            Rule::Premium => "no premium from 0 to the limit will do",
+            Rule::Course => "the column for the course is too short",
         }
     }
 }
@@ -67,6 +76,8 @@ impl TryFrom<u8> for Rule {
             10 => Ok(Rule::Factor),
             11 => Ok(Rule::Share),
             12 => Ok(Rule::Payment),
+            20 => Ok(Rule::Premium),
+            22 => Ok(Rule::Course),
             _ => Err(UnknownRule(number)),
         }
     }

@@ -72,6 +72,18 @@ fn rules_go_by_their_numbers(rt: HostRuntime) -> Result<(), Fail> {
             Layer::Plan,
             "a year, a state or the length of a column of a plan is unfit or an entry is out of range",
         ),
+        (
+            20,
+            Rule::Premium,
+            Layer::Contract,
+            "no premium from 0 to the limit will do",
+        ),
+        (
+            22,
+            Rule::Course,
+            Layer::Contract,
+            "the column for the course is too short",
+        ),
     ];
     for (number, rule, layer, words) in cases {
         assert_eq!(rt; Rule::try_from(number), Ok(rule));
@@ -84,6 +96,7 @@ fn rules_go_by_their_numbers(rt: HostRuntime) -> Result<(), Fail> {
     }
     assert_eq!(rt; Rule::try_from(8), Err(UnknownRule(8)));
     assert_eq!(rt; Rule::try_from(13), Err(UnknownRule(13)));
+    assert_eq!(rt; Rule::try_from(21), Err(UnknownRule(21)));
     let unknown = UnknownRule(13).to_string(rt.alloc())?;
     assert!(rt; unknown.as_str() == "no rule goes by 13");
     Ok(())

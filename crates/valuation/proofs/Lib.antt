@@ -1,4 +1,5 @@
 pub mod Agreement
+pub mod Hulls
 pub mod Range
 pub mod Rounded
 pub mod Sums

@@ -1,5 +1,9 @@
+pub mod Extremes
 pub mod Figures
 pub mod Means
 pub mod Operations
 pub mod Orders
 pub mod Reserves
+pub mod SpanOperations
+pub mod SpanOrders
+pub mod Spans

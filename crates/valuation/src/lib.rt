@@ -1,12 +1,14 @@
 // Valuations: what a contract is worth in each state and year, by one backward sweep over a basis and a plan.
 #![tactic(auto)]
 
-ghost use Rattle.std.specs.Prelude.{◌≡◌};
+ghost use Rattle.std.specs.Prelude.{◌≡◌, ◌*◌, ◌^◌, ◌<◌};
+ghost use Rattle.std.specs.Mem.{type_size};
 ghost use Rattle.valuation.specs.Operations.{Operations, Ordered};
 
 mod fill;
 pub mod mean;
 pub mod reserve;
+pub mod span;
 mod sweep;
 #[cfg(test)]
 mod tests;
@@ -36,4 +38,6 @@ pub trait Valuation {
         ensures { result ≡ (operations self.now).discount factor figure };
 
     ghost ordered: { (s : Self) → Ordered order (operations s) };
+
+    ghost fits: { 8 * type_size Self.Figure.row < 2 ^ 63 };
 }

@@ -49,7 +49,6 @@ impl<'a, V: Valuation, B: Basis, P: Plan> Sweep<'a, V, B, P> {
 
     // The figures of all states in a year, backwards from the last year of the basis.
     fn back_to(&self, year: usize, figures: &mut [V::Figure])
-        requires room { MOST_STATES * type_size V.Figure.row < 2 ^ 63 }
         requires year { year ≤ (B.meaning self.now.basis.now).years }
         requires figures { length figures.old ≡ (B.meaning self.now.basis.now).states }
         ensures { figures.new ≡ figures_of (V.operations self.now.valuation.now) (B.meaning self.now.basis.now) (P.payments self.now.plan.now) self.now.premium.ticks year }
@@ -71,7 +70,6 @@ impl<'a, V: Valuation, B: Basis, P: Plan> Sweep<'a, V, B, P> {
 
     // The figure of any state in any year.
     pub(crate) fn figure_at(&self, state: usize, year: usize) -> V::Figure
-        requires room { MOST_STATES * type_size V.Figure.row < 2 ^ 63 }
         ensures { result ≡ figure (V.operations self.now.valuation.now) (B.meaning self.now.basis.now) (P.payments self.now.plan.now) self.now.premium.ticks state year }
     {
         if year >= self.basis.years() {

@@ -51,7 +51,6 @@ impl<'a, V: Valuation, B: Basis, P: Plan> Year<'a, V, B, P> {
 
     // The join of what follows a state, discounted and as it is.
     fn ahead(&self, state: usize) -> (V::Figure, V::Figure)
-        requires room { MOST_STATES * type_size V.Figure.row < 2 ^ 63 }
         ensures discounted { result.0 ≡ discounted (V.operations self.now.sweep.now.valuation.now) (B.meaning self.now.sweep.now.basis.now) (P.payments self.now.sweep.now.plan.now) state self.now.year (λ j. figure (V.operations self.now.sweep.now.valuation.now) (B.meaning self.now.sweep.now.basis.now) (P.payments self.now.sweep.now.plan.now) self.now.sweep.now.premium.ticks j (self.now.year + 1)) }
         ensures joined { result.1 ≡ joined (V.operations self.now.sweep.now.valuation.now) (B.meaning self.now.sweep.now.basis.now) (P.payments self.now.sweep.now.plan.now) state self.now.year (λ j. figure (V.operations self.now.sweep.now.valuation.now) (B.meaning self.now.sweep.now.basis.now) (P.payments self.now.sweep.now.plan.now) self.now.sweep.now.premium.ticks j (self.now.year + 1)) }
     {
@@ -72,7 +71,6 @@ impl<'a, V: Valuation, B: Basis, P: Plan> Year<'a, V, B, P> {
     // The figure of a state.
     #[tactic(auto, using(crate::proofs::Years::figure_earlier))]
     pub(crate) fn figure(&self, state: usize) -> V::Figure
-        requires room { MOST_STATES * type_size V.Figure.row < 2 ^ 63 }
         ensures { result ≡ figure (V.operations self.now.sweep.now.valuation.now) (B.meaning self.now.sweep.now.basis.now) (P.payments self.now.sweep.now.plan.now) self.now.sweep.now.premium.ticks state self.now.year }
     {
         let (discounted, _) = self.ahead(state);
@@ -82,7 +80,6 @@ impl<'a, V: Valuation, B: Basis, P: Plan> Year<'a, V, B, P> {
 
     // The figures of all states.
     pub(crate) fn fill_figures(&self, figures: &mut [V::Figure])
-        requires room { MOST_STATES * type_size V.Figure.row < 2 ^ 63 }
         requires figures { length figures.old ≡ (B.meaning self.now.sweep.now.basis.now).states }
         ensures { figures.new ≡ figures_of (V.operations self.now.sweep.now.valuation.now) (B.meaning self.now.sweep.now.basis.now) (P.payments self.now.sweep.now.plan.now) self.now.sweep.now.premium.ticks self.now.year }
     {

@@ -5,6 +5,7 @@ ghost use Rattle.std.specs.List.{AllByRecursion};
 ghost use Rattle.units.specs.Ranges.{million};
 ghost use Rattle.valuation.specs.Means.{rounded_mean, rounded_discount, mean, LawfulFigure, LawfulRow, products};
 ghost use Rattle.valuation.specs.Orders.{mean_ordered};
+ghost use Rattle.std.proofs.Common.{rules};
 
 use crate::Valuation;
 use units::rounding::nearest;
@@ -42,6 +43,8 @@ impl Valuation for Mean {
     ghost order = { ◌≤ℤ◌ };
 
     ghost ordered = { λ s. mean_ordered };
+
+    ghost fits = { Prim.search rules };
 
     fn make(&self, amount: i64) -> i64 {
         amount
