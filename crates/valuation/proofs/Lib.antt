@@ -1,5 +1,6 @@
 pub mod Agreement
 pub mod Hulls
+pub mod Order
 pub mod Range
 pub mod Rounded
 pub mod Sums

@@ -1,3 +1,4 @@
+pub mod Comparisons
 pub mod Extremes
 pub mod Figures
 pub mod Means
