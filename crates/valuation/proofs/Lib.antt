@@ -1,7 +1,10 @@
 pub mod Agreement
+pub mod Extremes
 pub mod Hulls
 pub mod Order
+pub mod Plain
 pub mod Range
 pub mod Rounded
+pub mod SpanAgreement
 pub mod Sums
 pub mod Years

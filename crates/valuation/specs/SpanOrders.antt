@@ -41,7 +41,7 @@ zip_map_keeps below order f each [] (y ∷ ys) k = absurd k
 zip_map_keeps below order f each (x ∷ xs) [] k = absurd k
 zip_map_keeps below order f each (x ∷ xs) (y ∷ ys) k = (each x y k.0, zip_map_keeps below order f each xs ys k.1)
 
-hull_keeps : (xs ys : List Ends) → AllZip EndByEnd xs ys → EndByEnd (hull xs) (hull ys)
+pub hull_keeps : (xs ys : List Ends) → AllZip EndByEnd xs ys → EndByEnd (hull xs) (hull ys)
 hull_keeps xs ys k = record {
   least = smallest_keeps _ _ (zip_map_keeps EndByEnd ◌≤ℤ◌ (λ x. x.least) (λ x y h. h.least) xs ys k);
   greatest = largest_keeps _ _ (zip_map_keeps EndByEnd ◌≤ℤ◌ (λ x. x.greatest) (λ x y h. h.greatest) xs ys k);
@@ -52,7 +52,7 @@ counted_keeps : {F : Type 0} (order : F → F → Type 0) (b : Bool) (x y : F) (
 counted_keeps order true x y xs ys h k = (h, k)
 counted_keeps order false x y xs ys h k = k
 
-possible_keeps : {F : Type 0} (order : F → F → Type 0) (row : List ℕ) (xs ys : List F) → AllZip order xs ys → AllZip order (possible row xs) (possible row ys)
+pub possible_keeps : {F : Type 0} (order : F → F → Type 0) (row : List ℕ) (xs ys : List F) → AllZip order xs ys → AllZip order (possible row xs) (possible row ys)
 possible_keeps order [] xs ys k = tt
 possible_keeps order (p ∷ ps) [] [] k = tt
 possible_keeps order (p ∷ ps) [] (y ∷ ys) k = absurd k

@@ -1,8 +1,9 @@
 -- The span: the least and the most that a contract can come to from now on, discounted, in whole ticks. Assumes nothing.
-use Rattle.std.specs.Prelude.{◌≡◌, ℕ, zero, suc, ◌+◌, ◌-◌, List, map, ℤ, pos, ◌+ℤ◌, ◌*ℤ◌, ◌≤ℤ◌, nat_lt}
+use Rattle.std.specs.Prelude.{ℕ, zero, suc, ◌+◌, ◌-◌, List, map, ℤ, pos, ◌+ℤ◌, ◌*ℤ◌, ◌≤ℤ◌, nat_lt}
 use Rattle.std.specs.List.{filter}
 use Rattle.basis.specs.Transitions.{Transitions, moves}
 use Rattle.plan.specs.Payments.{Payments}
+use Rattle.valuation.specs.declared.span.ends.Ends.{Ends}
 use Rattle.valuation.specs.Extremes.{smallest, largest}
 use Rattle.valuation.specs.Figures.{flow}
 use Rattle.valuation.specs.Means.{rounded_discount}
@@ -28,7 +29,11 @@ module _ (c : Transitions) (p : Payments) where
   abbrev pub greatest : ℕ → ℕ → ℕ → ℤ
   greatest premium i t = end_with largest premium (c.years - t) i t
 
+-- both ends
+abbrev pub ends : Transitions → Payments → ℕ → ℕ → ℕ → Ends
+ends c p premium i t = record { least = least c p premium i t; greatest = greatest c p premium i t }
+
 -- the reserve lies within the span
-pub record Encloses (c : Transitions) (p : Payments) (premium i t : ℕ) (low high : ℤ) : Type 0 where
-  pub from_below : low ≤ℤ reserve c p premium i t
-  pub from_above : reserve c p premium i t ≤ℤ high
+pub record Encloses (c : Transitions) (p : Payments) (premium i t : ℕ) (span : Ends) : Type 0 where
+  pub from_below : span.least ≤ℤ reserve c p premium i t
+  pub from_above : reserve c p premium i t ≤ℤ span.greatest
