@@ -5,6 +5,7 @@ pub mod Order
 pub mod Plain
 pub mod Range
 pub mod Rounded
+pub mod Rows
 pub mod SpanAgreement
 pub mod Sums
 pub mod Years

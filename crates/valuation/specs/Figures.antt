@@ -1,5 +1,6 @@
 -- The figure of each state and year, backwards from the last year of the basis. Assumes nothing.
-use Rattle.std.specs.Prelude.{ℕ, zero, suc, ◌+◌, ◌-◌, cond, ◌&&◌, List, map, ℤ, pos, ◌-ℤ◌, nat_lt}
+use Rattle.std.specs.Prelude.{ℕ, zero, suc, ◌+◌, ◌-◌, cond, ◌&&◌, List, map, flat_map, ℤ, pos, ◌-ℤ◌, nat_lt}
+use Rattle.std.specs.List.{range_with_len}
 use Rattle.basis.specs.Transitions.{Transitions, moves}
 use Rattle.plan.specs.Payments.{Payments}
 use Rattle.valuation.specs.Operations.{Operations}
@@ -32,3 +33,7 @@ module _ {F : Type 0} (v : Operations F) (c : Transitions) (p : Payments) where
   -- the figures of all states of the basis in year t
   abbrev pub figures_of : ℕ → ℕ → List F
   figures_of premium t = map (λ i. figure premium i t) (moves c)
+
+  -- a row for each year from t to the last, one after another: the figures of all states in it
+  abbrev pub rows_from : ℕ → ℕ → List F
+  rows_from premium t = flat_map (figures_of premium) (range_with_len t (c.years + 1 - t))

@@ -1,4 +1,5 @@
 pub mod Comparisons
+pub mod Courses
 pub mod Extremes
 pub mod Figures
 pub mod Means

@@ -5,6 +5,7 @@ ghost use Rattle.std.specs.Prelude.{◌≡◌, ◌*◌, ◌^◌, ◌<◌};
 ghost use Rattle.std.specs.Mem.{type_size};
 ghost use Rattle.valuation.specs.Operations.{Operations, Ordered};
 
+pub mod course;
 pub mod figure;
 mod fill;
 pub mod mean;

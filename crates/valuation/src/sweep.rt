@@ -1,9 +1,8 @@
 // The backward sweep, for every kind of figure. It allocates nothing: figures stand in arrays on the stack, as long as any basis
 // wants. `room` asks that they fit in memory, which no ghost field can say, since it sees no size of an unknown type. A slice to fill
 // is handed on at once, so that its length stays a clause.
-ghost use Rattle.std.specs.Prelude.{◌≡◌, ◌*◌, ◌^◌, ◌<◌, ◌≤◌, length};
-ghost use Rattle.std.specs.Mem.{type_size};
-ghost use Rattle.valuation.specs.Figures.{flow, figure, figures_of};
+ghost use Rattle.std.specs.Prelude.{◌≡◌, ◌+◌, ◌-◌, ◌*◌, ◌<◌, ◌≤◌, drop, length};
+ghost use Rattle.valuation.specs.Figures.{flow, figure, figures_of, rows_from};
 
 use crate::Valuation;
 use crate::fill::fill_each;
@@ -65,6 +64,40 @@ impl<'a, V: Valuation, B: Basis, P: Plan> Sweep<'a, V, B, P> {
                 after,
             }
             .fill_figures(figures);
+        }
+    }
+
+    // The row of a year that the basis has, where the rows of all later years stand behind its place.
+    fn fill_row(&self, year: usize, rows: &mut [V::Figure])
+        requires year { year < (B.meaning self.now.basis.now).years }
+        requires length { length rows.old ≡ ((B.meaning self.now.basis.now).years + 1 - year) * (B.meaning self.now.basis.now).states }
+        requires later { drop (B.meaning self.now.basis.now).states rows.old ≡ rows_from (V.operations self.now.valuation.now) (B.meaning self.now.basis.now) (P.payments self.now.plan.now) self.now.premium.ticks (year + 1) }
+        ensures { rows.new ≡ rows_from (V.operations self.now.valuation.now) (B.meaning self.now.basis.now) (P.payments self.now.plan.now) self.now.premium.ticks year }
+    {
+        let states = self.basis.states();
+        let mut held = [self.valuation.make(0); MOST_STATES];
+        let after = &mut held[..states];
+        after.copy_from_slice(&rows[states..2 * states]);
+        Year {
+            // Lent anew: the year ends here.
+            sweep: &*self,
+            year,
+            after,
+        }
+        .fill_figures(&mut rows[..states]);
+    }
+
+    // The rows of a year and of all later years, one after another.
+    pub(crate) fn fill_rows(&self, first: usize, rows: &mut [V::Figure])
+        requires year { first ≤ (B.meaning self.now.basis.now).years }
+        requires length { length rows.old ≡ ((B.meaning self.now.basis.now).years + 1 - first) * (B.meaning self.now.basis.now).states }
+        ensures { rows.new ≡ rows_from (V.operations self.now.valuation.now) (B.meaning self.now.basis.now) (P.payments self.now.plan.now) self.now.premium.ticks first }
+    {
+        let states = self.basis.states();
+        let years = self.basis.years();
+        self.last_year(&mut rows[(years - first) * states..]);
+        for year in (first..years).rev() {
+            self.fill_row(year, &mut rows[(year - first) * states..]);
         }
     }
 

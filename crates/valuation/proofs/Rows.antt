@@ -1,0 +1,38 @@
+-- The rows of figures, one after another. Assumes nothing.
+use Rattle.std.proofs.Common.{◌≡◌, ℕ, zero, suc, ◌+◌, ◌-◌, ◌*◌, ◌<◌, ◌≤◌, List, ◌++◌, map, flat_map, take, drop, length, get_or, refl, sym, ap, ◌∙◌, add-mul, one-mul, arith}
+use Rattle.std.specs.List.{range_with_len}
+use Rattle.std.proofs.lemmas.List.{take_at, take_all, length-drop}
+use Rattle.std.proofs.lemmas.List.FromFn.{length-map-range_with_len, get_or-map-range_with_len}
+use Rattle.basis.specs.Transitions.{Transitions, moves}
+use Rattle.plan.specs.Payments.{Payments}
+use Rattle.valuation.specs.Figures.{figures_of, rows_from}
+use Rattle.valuation.specs.Operations.{Operations}
+
+module _ {F : Type 0} (v : Operations F) (c : Transitions) (p : Payments) (premium : ℕ) where
+  -- the first row, and the others
+  pub rows_split : (t : ℕ) → t ≤ c.years → rows_from v c p premium t ≡ figures_of v c p premium t ++ rows_from v c p premium (t + 1)
+  rows_split t l =
+      let left : c.years + 1 - t ≡ suc (c.years + 1 - (t + 1)) = omega arith in
+      ap (λ n. flat_map (figures_of v c p premium) (range_with_len t n)) left
+
+  pub row_length : (t : ℕ) → length (figures_of v c p premium t) ≡ c.states
+  row_length t = length-map-range_with_len _ 0 c.states
+
+  pub first_row : (t : ℕ) → t ≤ c.years → take c.states (rows_from v c p premium t) ≡ figures_of v c p premium t
+  first_row t l = ap (take c.states) (rows_split t l) ∙ take_at (figures_of v c p premium t) (rows_from v c p premium (t + 1)) c.states (row_length t)
+
+-- ---- places
+
+-- the row of u years later begins so many places later
+pub rows_apart : (m from years at : ℕ) → from ≤ at → at ≤ years → (years + 1 - from) * m ≡ (at - from) * m + (years + 1 - at) * m
+rows_apart m from years at l h = ap (λ n. n * m) (let apart : years + 1 - from ≡ (at - from) + (years + 1 - at) = omega arith in apart) ∙ add-mul (at - from) (years + 1 - at) m
+
+pub next_row : (m from at : ℕ) → from < at → (at - 1 - from) * m + m ≡ (at - from) * m
+next_row m from at l = sym (ap (λ n. n * m) (let one : at - from ≡ (at - 1 - from) + 1 = omega arith in one) ∙ add-mul (at - 1 - from) 1 m ∙ ap (λ n. (at - 1 - from) * m + n) (one-mul m))
+
+-- what stands from place a on
+pub rest_is : {X : Type 0} (xs : List X) (a : ℕ) → take (length xs - a) (drop a xs) ≡ drop a xs
+rest_is xs a = take_all (length xs - a) (drop a xs) (omega (arith, length-drop a xs))
+
+pub rest_length : {X : Type 0} (xs : List X) (a n : ℕ) → length xs ≡ a + n → length (take (length xs - a) (drop a xs)) ≡ n
+rest_length xs a n e = ap length (rest_is xs a) ∙ omega (arith, length-drop a xs, e)
