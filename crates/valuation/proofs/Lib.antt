@@ -1,4 +1,6 @@
 pub mod Agreement
+pub mod Closeness
+pub mod Exact
 pub mod Range
 pub mod Rounded
 pub mod Sums

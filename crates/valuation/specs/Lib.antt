@@ -1,3 +1,4 @@
+pub mod Exact
 pub mod Figures
 pub mod Means
 pub mod Operations
