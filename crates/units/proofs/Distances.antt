@@ -4,11 +4,21 @@ use borrow.Author.Differences.{ints}
 use Rattle.units.specs.Near.{Near, Within}
 use Rattle.units.proofs.Whole.{times_add, times_le}
 
+pub near_same : {a b : ℤ} → a ≡ b → Near 0 a b
+near_same {a} {b} e = record { low = omega (arith, ints, e); high = omega (arith, ints, e) }
+
 pub near_more : {d e : ℕ} {a b : ℤ} → d ≤ e → Near d a b → Near e a b
 near_more {d} {e} {a} {b} l h = record { low = omega (arith, ints, h.low); high = omega (arith, ints, h.high) }
 
 pub near_add : {d e : ℕ} {a b x y : ℤ} → Near d a b → Near e x y → Near (d + e) (a +ℤ x) (b +ℤ y)
 near_add {d} {e} {a} {b} {x} {y} h k = record { low = omega (arith, ints, h.low, k.low); high = omega (arith, ints, h.high, k.high) }
+
+pub near_trans : {d e : ℕ} {a b z : ℤ} → Near d a b → Near e b z → Near (d + e) a z
+near_trans {d} {e} {a} {b} {z} h k = record { low = omega (arith, ints, h.low, k.low); high = omega (arith, ints, h.high, k.high) }
+
+-- the same number more on both sides
+pub near_onto : {d : ℕ} {a b : ℤ} (x : ℤ) → Near d a b → Near d (x +ℤ a) (x +ℤ b)
+near_onto {d} {a} {b} x h = record { low = omega (arith, ints, h.low); high = omega (arith, ints, h.high) }
 
 pub near_times : (n : ℕ) {d : ℕ} {a b : ℤ} → Near d a b → Near (n * d) (pos n *ℤ a) (pos n *ℤ b)
 near_times n {d} {a} {b} h = record {

@@ -1,4 +1,6 @@
 pub mod Agreement
+pub mod Closeness
+pub mod Exact
 pub mod Extremes
 pub mod Hulls
 pub mod Order

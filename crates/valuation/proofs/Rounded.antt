@@ -1,8 +1,8 @@
 -- What is used of the rounding of means and of discounted amounts. Assumes nothing.
-use Rattle.std.specs.Prelude.{ℕ, ◌*◌, ℤ}
+use Rattle.std.specs.Prelude.{ℕ, ◌*◌, ℤ, pos, ◌*ℤ◌}
 use Rattle.std.proofs.Common.{arith}
 use Rattle.std.proofs.lemmas.Int.{ints}
-use Rattle.units.specs.Near.{Within}
+use Rattle.units.specs.Near.{Near, Within}
 use Rattle.units.specs.Rounding.{nearest}
 use Rattle.units.proofs.Nearest.{to_nearest}
 use Rattle.valuation.specs.Means.{rounded_mean, rounded_discount}
@@ -12,6 +12,12 @@ nearest_within : (d : ℕ) (z : ℤ) → Within (1000000 * d) z → Within d (ne
 nearest_within d z h =
     let n = to_nearest.within_half z in
     record { low = omega (arith, ints, h.low, n.low, n.high); high = omega (arith, ints, h.high, n.low, n.high) }
+
+pub rounded_mean_near : (z : ℤ) → Near 500000 (pos 1000000 *ℤ rounded_mean z) z
+rounded_mean_near = to_nearest.within_half
+
+pub rounded_discount_near : (z : ℤ) → Near 500000 (pos 1000000 *ℤ rounded_discount z) z
+rounded_discount_near = to_nearest.within_half
 
 pub rounded_mean_within : (d : ℕ) (z : ℤ) → Within (1000000 * d) z → Within d (rounded_mean z)
 rounded_mean_within = nearest_within

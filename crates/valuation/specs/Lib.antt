@@ -1,5 +1,6 @@
 pub mod Comparisons
 pub mod Courses
+pub mod Exact
 pub mod Extremes
 pub mod Figures
 pub mod Means

@@ -1,6 +1,7 @@
 // The reserve of any basis and plan.
-ghost use Rattle.std.specs.Prelude.{◌≡◌};
+ghost use Rattle.std.specs.Prelude.{◌≡◌, ◌<◌, ◌≤◌};
 ghost use Rattle.units.specs.Near.{Within};
+ghost use Rattle.valuation.specs.Exact.{NearExact};
 ghost use Rattle.valuation.specs.Reserves.{reserve};
 
 use crate::mean::Mean;
@@ -20,6 +21,7 @@ pub fn reserve<B: Basis, P: Plan>(
 ) -> i64
     ensures value { result ≡ reserve (B.meaning basis.now) (P.payments plan.now) premium.ticks state year }
     ensures range { Within 5000000000000 result }
+    ensures near_exact { state < (B.meaning basis.now).states → year ≤ (B.meaning basis.now).years → NearExact (B.meaning basis.now) (P.payments plan.now) premium.ticks state year result }
 {
     let sweep = Sweep {
         valuation: &Mean,
