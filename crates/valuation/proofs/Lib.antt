@@ -1,5 +1,6 @@
 pub mod Agreement
 pub mod Closeness
+pub mod Courses
 pub mod Exact
 pub mod Extremes
 pub mod Hulls

@@ -1,7 +1,8 @@
 -- The rows of figures, one after another. Assumes nothing.
-use Rattle.std.proofs.Common.{◌≡◌, ℕ, zero, suc, ◌+◌, ◌-◌, ◌*◌, ◌<◌, ◌≤◌, List, ◌++◌, map, flat_map, take, drop, length, get_or, refl, sym, ap, ◌∙◌, add-mul, one-mul, arith}
+use Rattle.std.proofs.Common.{◌≡◌, ℕ, zero, suc, ◌+◌, ◌-◌, ◌*◌, ◌<◌, ◌≤◌, List, ◌++◌, map, flat_map, take, drop, length, get_or, refl, sym, ap, ◌∙◌, add-mul, one-mul, zero-mul, suc-mul, not-suc-le-zero, le_of_suc-le-suc, arith}
 use Rattle.std.specs.List.{range_with_len}
-use Rattle.std.proofs.lemmas.List.{take_at, take_all, length-drop}
+use Rattle.std.proofs.lemmas.List.{take_at, take_all, length-drop, length-append, get_or-append-add}
+use Rattle.std.proofs.Math.ListN.{get_or-append}
 use Rattle.std.proofs.lemmas.List.FromFn.{length-map-range_with_len, get_or-map-range_with_len}
 use Rattle.basis.specs.Transitions.{Transitions, moves}
 use Rattle.plan.specs.Payments.{Payments}
@@ -36,3 +37,21 @@ rest_is xs a = take_all (length xs - a) (drop a xs) (omega (arith, length-drop a
 
 pub rest_length : {X : Type 0} (xs : List X) (a n : ℕ) → length xs ≡ a + n → length (take (length xs - a) (drop a xs)) ≡ n
 rest_length xs a n e = ap length (rest_is xs a) ∙ omega (arith, length-drop a xs, e)
+
+-- the entry of place u · m + i is that of state i in the row of u years later
+module _ {F : Type 0} (row : ℕ → List F) (m : ℕ) (long : (t : ℕ) → length (row t) ≡ m) (d : F) where
+  pub rows_length : (t n : ℕ) → length (flat_map row (range_with_len t n)) ≡ n * m
+  rows_length t zero = omega arith
+  rows_length t (suc n) = omega (arith, length-append (row t) (flat_map row (range_with_len (t + 1) n)), long t, rows_length (t + 1) n, suc-mul n m)
+
+  pub entry_of_row : (t n u i : ℕ) → u < n → i < m → get_or (flat_map row (range_with_len t n)) (u * m + i) d ≡ get_or (row (t + u)) i d
+  entry_of_row t zero u i late inside = absurd (not-suc-le-zero late)
+  entry_of_row t (suc n) zero i late inside =
+      ap (λ k. get_or (row t ++ flat_map row (range_with_len (t + 1) n)) k d) (let first : 0 * m + i ≡ i = omega (arith, zero-mul m) in first)
+      ∙ get_or-append (row t) (flat_map row (range_with_len (t + 1) n)) d i (omega (arith, long t))
+      ∙ ap (λ k. get_or (row k) i d) (let this : t ≡ t + 0 = omega arith in this)
+  entry_of_row t (suc n) (suc u) i late inside =
+      ap (λ k. get_or (row t ++ flat_map row (range_with_len (t + 1) n)) k d) (let later : suc u * m + i ≡ length (row t) + (u * m + i) = omega (arith, suc-mul u m, long t) in later)
+      ∙ get_or-append-add (row t) (flat_map row (range_with_len (t + 1) n)) (u * m + i) d
+      ∙ entry_of_row (t + 1) n u i (le_of_suc-le-suc late) inside
+      ∙ ap (λ k. get_or (row k) i d) (let that : t + 1 + u ≡ t + suc u = omega arith in that)
