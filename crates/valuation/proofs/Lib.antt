@@ -6,6 +6,7 @@ pub mod Extremes
 pub mod Hulls
 pub mod Order
 pub mod Plain
+pub mod Premiums
 pub mod Range
 pub mod Rounded
 pub mod Rows

@@ -6,6 +6,7 @@ pub mod Figures
 pub mod Means
 pub mod Operations
 pub mod Orders
+pub mod Premiums
 pub mod Reserves
 pub mod SpanOperations
 pub mod SpanOrders

@@ -9,6 +9,7 @@ pub mod course;
 pub mod figure;
 mod fill;
 pub mod mean;
+pub mod pricing;
 pub mod reserve;
 pub mod span;
 mod sweep;
