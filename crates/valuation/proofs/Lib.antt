@@ -1,6 +1,7 @@
 pub mod Agreement
 pub mod Closeness
 pub mod Courses
+pub mod Enclosure
 pub mod Exact
 pub mod Extremes
 pub mod Hulls
@@ -12,4 +13,5 @@ pub mod Rounded
 pub mod Rows
 pub mod SpanAgreement
 pub mod Sums
+pub mod WorkedCase
 pub mod Years

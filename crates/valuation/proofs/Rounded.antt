@@ -1,5 +1,5 @@
 -- What is used of the rounding of means and of discounted amounts. Assumes nothing.
-use Rattle.std.specs.Prelude.{ℕ, ◌*◌, ℤ, pos, ◌*ℤ◌}
+use Rattle.std.specs.Prelude.{◌≡◌, ℕ, ◌*◌, ℤ, pos, ◌*ℤ◌}
 use Rattle.std.proofs.Common.{arith}
 use Rattle.std.proofs.lemmas.Int.{ints}
 use Rattle.units.specs.Near.{Near, Within}
@@ -24,3 +24,7 @@ rounded_mean_within = nearest_within
 
 pub rounded_discount_within : (d : ℕ) (z : ℤ) → Within (1000000 * d) z → Within d (rounded_discount z)
 rounded_discount_within = nearest_within
+
+-- a whole number of ticks is not rounded
+pub rounded_mean_whole : (x : ℤ) → rounded_mean (pos 1000000 *ℤ x) ≡ x
+rounded_mean_whole = to_nearest.exact_on_wholes

@@ -11,3 +11,4 @@ pub mod Reserves
 pub mod SpanOperations
 pub mod SpanOrders
 pub mod Spans
+pub mod WorkedCase

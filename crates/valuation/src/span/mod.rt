@@ -1,68 +1,32 @@
-// The span: figures are pairs of ends, and a join goes over what follows moves that have a share.
-ghost use Rattle.std.specs.Prelude.{◌≡◌, ◌≤◌, pos, ◌+ℤ◌, ◌*ℤ◌};
-ghost use Rattle.std.proofs.Common.{rules};
-ghost use Rattle.units.specs.Ranges.{million};
-ghost use Rattle.valuation.specs.Means.{rounded_discount, LawfulFigure};
-ghost use Rattle.valuation.specs.SpanOperations.{span, EndByEnd, LawfulEnds};
-ghost use Rattle.valuation.specs.SpanOrders.{span_ordered};
+// The span of any basis and plan.
+ghost use Rattle.std.specs.Prelude.{◌≡◌};
+ghost use Rattle.valuation.specs.Comparisons.{NowhereValuedLower, NeverRaisedByPremium};
+ghost use Rattle.valuation.specs.SpanOperations.{EndByEnd, LawfulEnds};
+ghost use Rattle.valuation.specs.Spans.{ends, Encloses};
 
 pub mod ends;
+pub mod valuation;
 
-use crate::Valuation;
-use crate::mean::Mean;
+use crate::figure::figure;
 use crate::span::ends::Ends;
+use crate::span::valuation::Span;
+use basis::Basis;
+use plan::Plan;
+use units::premium::Premium;
 
-#[derive(Clone, Copy)]
-pub struct Span;
-
-impl Valuation for Span {
-    type Figure = Ends;
-
-    ghost operations = { λ _. span };
-
-    ghost order = { EndByEnd };
-
-    ghost ordered = { λ s. span_ordered };
-
-    ghost fits = { Prim.search rules };
-
-    fn make(&self, amount: i64) -> Ends {
-        Ends {
-            least: amount,
-            greatest: amount,
-        }
-    }
-
-    fn add(&self, figure: Ends, amount: i64) -> Ends
-        ensures meaning { result ≡ span.add figure amount }
-        ensures formula { LawfulEnds figure → LawfulFigure amount → result ≡ record { least = figure.least +ℤ amount; greatest = figure.greatest +ℤ amount } }
-    {
-        Ends {
-            least: Mean.add(figure.least, amount),
-            greatest: Mean.add(figure.greatest, amount),
-        }
-    }
-
-    fn join(&self, _state: usize, row: &[u32], following: &[Ends]) -> Ends {
-        let mut hull: Option<Ends> = None;
-        for (share, ends) in row.iter().zip(following.iter()) {
-            if *share > 0 {
-                hull = match hull {
-                    Some(so_far) => Some(so_far.widened_by(*ends)),
-                    None => Some(*ends),
-                };
-            }
-        }
-        hull.unwrap_or(Span.make(0))
-    }
-
-    fn discount(&self, factor: u32, figure: Ends) -> Ends
-        ensures meaning { result ≡ span.discount factor figure }
-        ensures formula { factor ≤ million → LawfulEnds figure → result ≡ record { least = rounded_discount (pos factor *ℤ figure.least); greatest = rounded_discount (pos factor *ℤ figure.greatest) } }
-    {
-        Ends {
-            least: Mean.discount(factor, figure.least),
-            greatest: Mean.discount(factor, figure.greatest),
-        }
-    }
+// The least and the most that a contract can come to in a state and a year, at a premium, whichever moves with a share it makes.
+pub fn span<B: Basis, P: Plan>(
+    basis: &B,
+    plan: &P,
+    premium: Premium,
+    state: usize,
+    year: usize,
+) -> Ends
+    ensures value { result ≡ ends (B.meaning basis.now) (P.payments plan.now) premium.ticks state year }
+    ensures range { LawfulEnds result }
+    ensures encloses { Encloses (B.meaning basis.now) (P.payments plan.now) premium.ticks state year result }
+    ensures nowhere_valued_lower { NowhereValuedLower EndByEnd (B.meaning basis.now) (ends (B.meaning basis.now)) }
+    ensures never_raised_by_premium { NeverRaisedByPremium EndByEnd (B.meaning basis.now) (ends (B.meaning basis.now)) }
+{
+    figure(&Span, basis, plan, premium, state, year)
 }

@@ -3,7 +3,7 @@ use Rattle.std.specs.Option.{unwrap_or}
 use Rattle.std.proofs.lemmas.Slice.Zip.{either_empty_from_Zip}
 use Rattle.valuation.specs.SpanOperations.{possible, hull}
 use Rattle.valuation.proofs.Hulls.{hull_with, possible_ended, hull_ended}
-use Rattle.valuation.proofs.span.SpanValuation.join.Goals as goal
+use Rattle.valuation.proofs.span.valuation.SpanValuation.join.Goals as goal
 
 pub returns : goal.returns
 returns c =

@@ -1,0 +1,26 @@
+-- The figures of the definitions, by computing them. Assumes nothing.
+use Rattle.std.proofs.Common.{◌≤◌, ℤ, pos, negsuc, ◌≤ℤ◌, refl, lit≤, arith}
+use borrow.Author.Differences.{ints}
+use Rattle.valuation.specs.Premiums.{Suffices}
+use Rattle.valuation.specs.WorkedCase.{worked_basis, worked_plan, WorkedFigures}
+use Rattle.valuation.proofs.Premiums.{none_up_to}
+
+too_cheap : Suffices worked_basis worked_plan 0 0 (pos 0) 452486 → ⊥
+too_cheap suffices = let no : pos 1 ≤ℤ pos 0 = suffices in omega (arith, ints, no)
+
+pub worked_figures : WorkedFigures
+worked_figures = record {
+  half = refl;
+  below_half = refl;
+  half_below_nought = refl;
+  past_half_below_nought = refl;
+  reserve_one_tick_too_cheap = refl;
+  reserve_at_premium = refl;
+  least_premium = record {
+    in_range = lit≤ tt;
+    suffices = (let yes : negsuc 0 ≤ℤ pos 0 = omega (arith, ints) in yes);
+    no_lower = none_up_to worked_basis worked_plan 0 0 (pos 0) 452486 too_cheap;
+  };
+  exact_at_premium = refl;
+  span_at_premium = refl;
+}
