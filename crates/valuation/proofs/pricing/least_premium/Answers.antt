@@ -1,4 +1,4 @@
-use Rattle.std.proofs.Common.{rules, ◌≡◌, ◌+◌, ◌-◌, ◌<◌, ◌/◌, arith, w64, to_z, of_z, ◌≤ℤ◌}
+use Rattle.std.proofs.Common.{rules, ◌≡◌, ◌+◌, ◌-◌, ◌<◌, ◌/◌, arith, w64, to_z, of_z, ◌≤ℤ◌, ◌<ℤ◌}
 use borrow.Author.Differences.{ints}
 use Rattle.valuation.specs.Premiums.{Suffices}
 use Rattle.valuation.proofs.Plain.{reserve_never_raised}
@@ -19,7 +19,8 @@ loop-left-preserved g c =
       | in_default-via-in-Some+else-reserve-bound w ↦ (λ s.
           let ticks : w.in-Some.premium.ticks ≡ middle = omega (arith, ints, w.in-Some.ensures, inv.1, some) in
           let low : w.reserve.result ≤ℤ bound = rw (w.reserve.ensures.value, ticks) s in
-          grind (arith, ints, low, w.if-reserve-bound.false))
+          let high : bound <ℤ w.reserve.result = grind (arith, ints, w.if-reserve-bound.false) in
+        omega (arith, ints, low, high))
       | in_default-via-in_default w ↦ (λ s. let h = w.in_default in search rules)
     ] in
     (omega (arith, some), inv.1, half.1, none_up_to (g.B.Basis.meaning c.args.basis.now) (g.P.Plan.payments c.args.plan.now) c.args.state c.args.year bound middle not, inv.4)
