@@ -1,11 +1,11 @@
 -- The span encloses the reserve. Assumes nothing.
-use Rattle.std.proofs.Common.{◌≡◌, ℕ, zero, suc, ◌+◌, ◌-◌, ◌<◌, ◌≤◌, Bool, true, false, cond, nat_lt, List, [], ◌∷◌, map, ℤ, pos, ◌+ℤ◌, ◌*ℤ◌, ◌≤ℤ◌, sum_by, refl, sym, ap, ◌∙◌, subst, ⊎_elim, arith}
+use Rattle.std.proofs.Common.{◌≡◌, ℕ, zero, suc, ◌+◌, ◌-◌, ◌<◌, ◌≤◌, Bool, true, false, cond, nat_lt, List, [], ◌∷◌, map, ℤ, pos, ◌+ℤ◌, ◌*ℤ◌, ◌≤ℤ◌, refl, sym, ap, ◌∙◌, subst, ⊎_elim, arith}
 use borrow.Author.Differences.{ints}
-use Rattle.std.specs.List.{AllByRecursion, filter, range_with_len}
+use Rattle.std.specs.List.{AllByRecursion, filter}
 use Rattle.std.proofs.lemmas.Bool.Decides.{leb_tells, nat_tests}
 use Rattle.units.specs.Ranges.{million}
 use Rattle.units.specs.Sums.{int_sum_by}
-use Rattle.units.proofs.Sums.{int_sum_by_weights, sum_by_none}
+use Rattle.units.proofs.Sums.{int_sum_by_weights}
 use Rattle.units.proofs.Whole.{times_le}
 use Rattle.basis.specs.Transitions.{Transitions, Lawful, moves}
 use Rattle.plan.specs.Payments.{Payments}
@@ -13,8 +13,8 @@ use Rattle.valuation.specs.Extremes.{smallest, largest}
 use Rattle.valuation.specs.Figures.{flow}
 use Rattle.valuation.specs.Means.{rounded_mean, rounded_discount}
 use Rattle.valuation.specs.Orders.{rounded_mean_keeps, rounded_discount_keeps}
-use Rattle.valuation.specs.Reserves.{reserve_with, reserve}
-use Rattle.valuation.specs.Spans.{possible_moves, follows, end_with, ends, Encloses}
+use Rattle.valuation.specs.Reserves.{reserve_with}
+use Rattle.valuation.specs.Spans.{follows, end_with, ends, Encloses}
 use Rattle.valuation.proofs.Extremes.{smallest_each, largest_each}
 use Rattle.valuation.proofs.Rounded.{rounded_mean_whole}
 
@@ -92,14 +92,14 @@ module _ (before : ℤ → ℤ → Type 0) (pick : List ℤ → ℤ) (way : Dire
         let below = weighted_before share paid s (moves c) (way.each (follows c p i t next)) in
         ⊎_elim
         (λ outside.
-          let none : (j : ℕ) → share j ≡ 0 = λ j. law.share_from_outside i j t outside.1 in
-          let empty : follows c p i t next ≡ [] = ap (map paid) (no_moves share none (moves c)) in
-          let nought : s ≡ pos 0 = ap pick empty ∙ way.none in
-          let zero_sum : int_sum_by (λ j. pos (share j) *ℤ paid j) (moves c) ≡ pos million *ℤ pos 0 = no_sum share none paid (moves c) in
-          subst (λ z. before s z) (sym (ap rounded_mean zero_sum ∙ rounded_mean_whole (pos 0))) (subst (λ z. before s z) nought (way.same s)))
+        let none : (j : ℕ) → share j ≡ 0 = λ j. law.share_from_outside i j t outside.1 in
+        let empty : follows c p i t next ≡ [] = ap (map paid) (no_moves share none (moves c)) in
+        let nought : s ≡ pos 0 = ap pick empty ∙ way.none in
+        let zero_sum : int_sum_by (λ j. pos (share j) *ℤ paid j) (moves c) ≡ pos million *ℤ pos 0 = no_sum share none paid (moves c) in
+        subst (λ z. before s z) (sym (ap rounded_mean zero_sum ∙ rounded_mean_whole (pos 0))) (subst (λ z. before s z) nought (way.same s)))
         (λ inside.
-          let whole : int_sum_by (λ j. pos (share j) *ℤ s) (moves c) ≡ pos million *ℤ s = int_sum_by_weights share s (moves c) ∙ ap (λ (n : ℕ). pos n *ℤ s) (law.row i t inside.1 early) in
-          subst (λ z. before z (rounded_mean (int_sum_by (λ j. pos (share j) *ℤ paid j) (moves c)))) (ap rounded_mean whole ∙ rounded_mean_whole s) (way.mean _ _ below))
+        let whole : int_sum_by (λ j. pos (share j) *ℤ s) (moves c) ≡ pos million *ℤ s = int_sum_by_weights share s (moves c) ∙ ap (λ (n : ℕ). pos n *ℤ s) (law.row i t inside.1 early) in
+        subst (λ z. before z (rounded_mean (int_sum_by (λ j. pos (share j) *ℤ paid j) (moves c)))) (ap rounded_mean whole ∙ rounded_mean_whole s) (way.mean _ _ below))
         (leb_tells c.states i)
       where
         no_moves : (share : ℕ → ℕ) → ((j : ℕ) → share j ≡ 0) → (js : List ℕ) → filter (λ j. nat_lt 0 (share j)) js ≡ []

@@ -3,9 +3,9 @@ use Rattle.std.proofs.Common.{◌≡◌, ℕ, zero, suc, ◌+◌, ◌-◌, ◌<�
 use borrow.Author.Differences.{ints}
 use Rattle.std.specs.List.{AllZip, range_with_len}
 use Rattle.std.proofs.lemmas.Bool.Decides.{nat_tests, leb_tells}
-use Rattle.basis.specs.Transitions.{Transitions, moves}
+use Rattle.basis.specs.Transitions.{Transitions}
 use Rattle.plan.specs.Payments.{Payments}
-use Rattle.valuation.specs.Comparisons.{PaysAtLeastAsMuch, NowhereValuedLower, NeverRaisedByPremium}
+use Rattle.valuation.specs.Comparisons.{NowhereValuedLower, NeverRaisedByPremium}
 use Rattle.valuation.specs.Figures.{flow, figure_with, figure}
 use Rattle.valuation.specs.Operations.{Operations, Ordered}
 
@@ -55,11 +55,11 @@ module _ {F : Type 0} (order : F → F → Type 0) (v : Operations F) (law : Ord
   pub never_raised_by_premium : NeverRaisedByPremium order c (figure v c)
   never_raised_by_premium p lower higher l i t = ⊎_elim
       (λ early.
-        figure_with_keeps p p higher lower (suc (i + c.states)) t (omega arith)
-        (λ i u inside l′ e. flow_falls p lower higher i u l)
-        (λ i j u inside below l′ e. omega arith)
-        (c.years - t) i t (omega arith) (omega arith) (omega (arith, early.1)))
+      figure_with_keeps p p higher lower (suc (i + c.states)) t (omega arith)
+      (λ i u inside l′ e. flow_falls p lower higher i u l)
+      (λ i j u inside below l′ e. omega arith)
+      (c.years - t) i t (omega arith) (omega arith) (omega (arith, early.1)))
       (λ late.
-        let none : c.years - t ≡ 0 = omega (arith, late.1) in
-        rw (none) (law.make_keeps _ _ (flow_falls p lower higher i t l)))
+      let none : c.years - t ≡ 0 = omega (arith, late.1) in
+      rw (none) (law.make_keeps _ _ (flow_falls p lower higher i t l)))
       (leb_tells t c.years)

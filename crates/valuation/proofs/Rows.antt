@@ -1,10 +1,10 @@
 -- The rows of figures, one after another. Assumes nothing.
-use Rattle.std.proofs.Common.{◌≡◌, ℕ, zero, suc, ◌+◌, ◌-◌, ◌*◌, ◌<◌, ◌≤◌, List, ◌++◌, map, flat_map, take, drop, length, get_or, refl, sym, ap, ◌∙◌, add-mul, one-mul, zero-mul, suc-mul, not-suc-le-zero, le_of_suc-le-suc, arith}
+use Rattle.std.proofs.Common.{◌≡◌, ℕ, zero, suc, ◌+◌, ◌-◌, ◌*◌, ◌<◌, ◌≤◌, List, ◌++◌, flat_map, take, drop, length, get_or, sym, ap, ◌∙◌, add-mul, one-mul, zero-mul, suc-mul, not-suc-le-zero, le_of_suc-le-suc, arith}
 use Rattle.std.specs.List.{range_with_len}
-use Rattle.std.proofs.lemmas.List.{take_at, take_all, length-drop, length-append, get_or-append-add}
+use Rattle.std.proofs.lemmas.List.{take_at, take_all, drop-drop, length-drop, length-append, get_or-append-add}
 use Rattle.std.proofs.Math.ListN.{get_or-append}
-use Rattle.std.proofs.lemmas.List.FromFn.{length-map-range_with_len, get_or-map-range_with_len}
-use Rattle.basis.specs.Transitions.{Transitions, moves}
+use Rattle.std.proofs.lemmas.List.FromFn.{length-map-range_with_len}
+use Rattle.basis.specs.Transitions.{Transitions}
 use Rattle.plan.specs.Payments.{Payments}
 use Rattle.valuation.specs.Figures.{figures_of, rows_from}
 use Rattle.valuation.specs.Operations.{Operations}
@@ -28,15 +28,22 @@ module _ {F : Type 0} (v : Operations F) (c : Transitions) (p : Payments) (premi
 pub rows_apart : (m from years at : ℕ) → from ≤ at → at ≤ years → (years + 1 - from) * m ≡ (at - from) * m + (years + 1 - at) * m
 rows_apart m from years at l h = ap (λ n. n * m) (let apart : years + 1 - from ≡ (at - from) + (years + 1 - at) = omega arith in apart) ∙ add-mul (at - from) (years + 1 - at) m
 
-pub next_row : (m from at : ℕ) → from < at → (at - 1 - from) * m + m ≡ (at - from) * m
+next_row : (m from at : ℕ) → from < at → (at - 1 - from) * m + m ≡ (at - from) * m
 next_row m from at l = sym (ap (λ n. n * m) (let one : at - from ≡ (at - 1 - from) + 1 = omega arith in one) ∙ add-mul (at - 1 - from) 1 m ∙ ap (λ n. (at - 1 - from) * m + n) (one-mul m))
 
 -- what stands from place a on
-pub rest_is : {X : Type 0} (xs : List X) (a : ℕ) → take (length xs - a) (drop a xs) ≡ drop a xs
+rest_is : {X : Type 0} (xs : List X) (a : ℕ) → take (length xs - a) (drop a xs) ≡ drop a xs
 rest_is xs a = take_all (length xs - a) (drop a xs) (omega (arith, length-drop a xs))
 
-pub rest_length : {X : Type 0} (xs : List X) (a n : ℕ) → length xs ≡ a + n → length (take (length xs - a) (drop a xs)) ≡ n
-rest_length xs a n e = ap length (rest_is xs a) ∙ omega (arith, length-drop a xs, e)
+-- of the rows from one year on, those of a year and later
+pub part_length : {X : Type 0} (xs : List X) (m from years at : ℕ) → from ≤ at → at ≤ years → length xs ≡ (years + 1 - from) * m → length (take (length xs - (at - from) * m) (drop ((at - from) * m) xs)) ≡ (years + 1 - at) * m
+part_length xs m from years at l h long =
+    let apart = rows_apart m from years at l h in
+    ap length (rest_is xs ((at - from) * m)) ∙ omega (arith, length-drop ((at - from) * m) xs, long, apart)
+
+pub part_later : {X : Type 0} (xs : List X) (m from at : ℕ) → from < at → drop m (take (length xs - (at - 1 - from) * m) (drop ((at - 1 - from) * m) xs)) ≡ drop ((at - from) * m) xs
+part_later xs m from at l =
+    ap (drop m) (rest_is xs ((at - 1 - from) * m)) ∙ drop-drop m ((at - 1 - from) * m) xs ∙ ap (λ n. drop n xs) (next_row m from at l)
 
 -- the entry of place u · m + i is that of state i in the row of u years later
 module _ {F : Type 0} (row : ℕ → List F) (m : ℕ) (long : (t : ℕ) → length (row t) ≡ m) (d : F) where

@@ -1,5 +1,5 @@
 -- The figures of the definitions, by computing them. Assumes nothing.
-use Rattle.std.proofs.Common.{◌≤◌, ℤ, pos, negsuc, ◌≤ℤ◌, refl, lit≤, arith}
+use Rattle.std.proofs.Common.{pos, negsuc, ◌≤ℤ◌, refl, lit≤, arith}
 use borrow.Author.Differences.{ints}
 use Rattle.valuation.specs.Premiums.{Suffices}
 use Rattle.valuation.specs.WorkedCase.{worked_basis, worked_plan, WorkedFigures}

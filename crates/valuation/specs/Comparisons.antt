@@ -2,8 +2,6 @@
 use Rattle.std.specs.Prelude.{◌≡◌, ℕ, ◌<◌, ◌≤◌}
 use Rattle.basis.specs.Transitions.{Transitions}
 use Rattle.plan.specs.Payments.{Payments}
-use Rattle.valuation.specs.Figures.{figure}
-use Rattle.valuation.specs.Operations.{Operations}
 
 -- in all states of the basis the plan `more` at its premium pays at least as much as the plan `less` at its: benefits of years t to n,
 -- move benefits and marks of years t to n - 1

@@ -1,5 +1,5 @@
 -- The span as a valuation: figures are pairs of ends, and a join goes over what follows moves that have a share. Assumes nothing.
-use Rattle.std.specs.Prelude.{ℕ, cond, nat_lt, List, [], ◌∷◌, map, ℤ, ◌≤ℤ◌}
+use Rattle.std.specs.Prelude.{ℕ, cond, nat_lt, List, [], ◌∷◌, map, ◌≤ℤ◌}
 use Rattle.valuation.specs.declared.span.ends.Ends.{Ends}
 use Rattle.valuation.specs.Extremes.{smallest, largest}
 use Rattle.valuation.specs.Means.{mean, LawfulFigure}

@@ -1,5 +1,5 @@
 -- Figures of the definitions: rounding at its edges, and a case that can be worked by hand. Assumes nothing.
-use Rattle.std.specs.Prelude.{◌≡◌, [], ◌∷◌, ℤ, pos, negsuc}
+use Rattle.std.specs.Prelude.{◌≡◌, [], ◌∷◌, pos, negsuc}
 use Rattle.units.specs.Rounding.{nearest}
 use Rattle.basis.specs.LifeTables.{lives}
 use Rattle.basis.specs.Transitions.{Transitions}

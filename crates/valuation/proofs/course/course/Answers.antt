@@ -1,4 +1,4 @@
-use Rattle.std.proofs.Common.{◌≡◌, ◌≤◌, ◌*◌, length, arith, rules}
+use Rattle.std.proofs.Common.{◌≡◌, ◌≤◌, ◌*◌, length, rules}
 use Rattle.valuation.specs.Courses.{course_length}
 use Rattle.valuation.proofs.Courses.{writes}
 use Rattle.valuation.proofs.course.course.Goals as goal

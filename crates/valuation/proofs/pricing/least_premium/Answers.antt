@@ -16,11 +16,12 @@ loop-left-preserved g c =
     let half = halved c.loop-left.low c.loop-left.high (c.loop-left._left - 1) some (rw (left) inv.2) in
     let not : Suffices (g.B.Basis.meaning c.args.basis.now) (g.P.Plan.payments c.args.plan.now) c.args.state c.args.year bound middle → ⊥ =
     elim c.in_default.branch [
-      in_default-via-in-Some+else-reserve-bound w ↦ (λ s.
-        let ticks : w.in-Some.premium.ticks ≡ middle = omega (arith, ints, w.in-Some.ensures, inv.1, some) in
-        let low : w.reserve.result ≤ℤ bound = rw (w.reserve.ensures.value, ticks) s in
-        grind (arith, ints, low, w.if-reserve-bound.false))
-    | in_default-via-in_default w ↦ (λ s. let h = w.in_default in search rules) ] in
+      | in_default-via-in-Some+else-reserve-bound w ↦ (λ s.
+          let ticks : w.in-Some.premium.ticks ≡ middle = omega (arith, ints, w.in-Some.ensures, inv.1, some) in
+          let low : w.reserve.result ≤ℤ bound = rw (w.reserve.ensures.value, ticks) s in
+          grind (arith, ints, low, w.if-reserve-bound.false))
+      | in_default-via-in_default w ↦ (λ s. let h = w.in_default in search rules)
+    ] in
     (omega (arith, some), inv.1, half.1, none_up_to (g.B.Basis.meaning c.args.basis.now) (g.P.Plan.payments c.args.plan.now) c.args.state c.args.year bound middle not, inv.4)
 
 pub returns-after-loop-left-clause-never_raised_by_premium : goal.returns-after-loop-left-clause-never_raised_by_premium

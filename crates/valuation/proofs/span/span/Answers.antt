@@ -1,4 +1,4 @@
-use Rattle.std.proofs.Common.{◌≡◌, ◌∙◌, rules}
+use Rattle.std.proofs.Common.{◌≡◌, rules}
 use Rattle.valuation.specs.Spans.{ends}
 use Rattle.valuation.proofs.Enclosure.{encloses}
 use Rattle.valuation.proofs.Plain.{span_nowhere_lower, span_never_raised}
