@@ -1,0 +1,2 @@
+pub mod LivesFit
+pub mod ThreeStatesFit
