@@ -1,8 +1,8 @@
-use Rattle.std.proofs.Common.{rules, ◌≡◌, ◌+◌, ◌-◌, ◌<◌, ◌/◌, arith, w64, to_z, of_z, ◌≤ℤ◌, ◌<ℤ◌}
+use Rattle.std.proofs.Common.{rules, ◌≡◌, ◌+◌, ◌-◌, ◌<◌, ◌/◌, arith, w64, to_z, of_z, ◌≤ℤ◌}
 use borrow.Author.Differences.{ints}
 use Rattle.valuation.specs.Premiums.{Suffices}
 use Rattle.valuation.proofs.Plain.{reserve_never_raised}
-use Rattle.valuation.proofs.Premiums.{none_up_to, halved}
+use Rattle.valuation.proofs.Premiums.{none_up_to, not_at_most, halved}
 use Rattle.valuation.proofs.pricing.least_premium.Goals as goal
 use Rattle.valuation.proofs.pricing.least_premium.Goals.{in_default-via-in-Some+else-reserve-bound, in_default-via-in_default}
 
@@ -19,7 +19,7 @@ loop-left-preserved g c =
       | in_default-via-in-Some+else-reserve-bound w ↦ (λ s.
           let ticks : w.in-Some.premium.ticks ≡ middle = omega (arith, ints, w.in-Some.ensures, inv.1, some) in
           let low : w.reserve.result ≤ℤ bound = rw (w.reserve.ensures.value, ticks) s in
-          let high : bound <ℤ w.reserve.result = grind (arith, ints, w.if-reserve-bound.false) in
+          let high = not_at_most (to_z w64 (of_z w64 w.reserve.result)) bound w.if-reserve-bound.false in
         omega (arith, ints, low, high))
       | in_default-via-in_default w ↦ (λ s. let h = w.in_default in search rules)
     ] in
