@@ -3,7 +3,8 @@ use std::env;
 
 fn main() {
     for folder in ["ENGINE", "KIT_C"] {
-        let path = env::var(folder).unwrap_or_else(|_| panic!("{folder} is not set: call bench/run"));
+        let path =
+            env::var(folder).unwrap_or_else(|_| panic!("{folder} is not set: call bench/run"));
         println!("cargo::rerun-if-env-changed={folder}");
         println!("cargo::rerun-if-changed={path}");
         println!("cargo::rustc-link-search=native={path}");

@@ -28,7 +28,8 @@ impl<'a> Basis<'a> {
         if !all_within(factors, 1, MILLION) {
             return Err(UNFIT_FACTOR);
         }
-        let lawful = |row: &[i64]| all_within(row, 0, MILLION) && row.iter().sum::<i64>() == MILLION;
+        let lawful =
+            |row: &[i64]| all_within(row, 0, MILLION) && row.iter().sum::<i64>() == MILLION;
         if !shares.chunks_exact(states).all(lawful) {
             return Err(UNFIT_ROW);
         }
@@ -89,11 +90,13 @@ impl<'a> Plan<'a> {
     }
 
     fn benefit(&self, state: usize, year: usize) -> i64 {
-        self.place(state, year).map_or(0, |place| self.benefits[place])
+        self.place(state, year)
+            .map_or(0, |place| self.benefits[place])
     }
 
     fn due(&self, state: usize, year: usize) -> bool {
-        self.place(state, year).is_some_and(|place| self.marks[place] == 1)
+        self.place(state, year)
+            .is_some_and(|place| self.marks[place] == 1)
     }
 
     // What is paid for the moves out of a state in a year, if anything is.
@@ -142,7 +145,11 @@ fn reserve(basis: &Basis, plan: &Plan, premium: i64, state: usize, year: usize) 
                     .zip(&next)
                     .map(|((share, paid), next)| share * (paid + next))
                     .sum(),
-                None => row.iter().zip(&next).map(|(share, next)| share * next).sum(),
+                None => row
+                    .iter()
+                    .zip(&next)
+                    .map(|(share, next)| share * next)
+                    .sum(),
             };
             let mean = nearest(sum);
             *value = flow(basis, plan, premium, state, year) + nearest(basis.factors[year] * mean);

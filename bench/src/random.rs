@@ -59,7 +59,11 @@ impl Random {
         let mut shares = vec![0; states];
         let mut left = MILLION;
         while left > 0 {
-            let share = if self.one_in(4) { left } else { self.within(0, left) };
+            let share = if self.one_in(4) {
+                left
+            } else {
+                self.within(0, left)
+            };
             shares[self.count(0, states - 1)] += share;
             left -= share;
         }
