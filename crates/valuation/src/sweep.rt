@@ -1,6 +1,5 @@
 // The backward sweep, for every kind of figure. It allocates nothing: figures stand in arrays on the stack, as long as any basis
-// wants. `room` asks that they fit in memory, which no ghost field can say, since it sees no size of an unknown type. A slice to fill
-// is handed on at once, so that its length stays a clause.
+// wants, which a valuation's law says to fit in memory. A slice to fill is handed on at once, so that its length stays a clause.
 ghost use Rattle.std.specs.Prelude.{◌≡◌, ◌+◌, ◌-◌, ◌*◌, ◌<◌, ◌≤◌, drop, length};
 ghost use Rattle.valuation.specs.Figures.{flow, figure, figures_of, rows_from};
 

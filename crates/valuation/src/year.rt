@@ -1,4 +1,4 @@
-// One year of the sweep: its figures from those of the year after. `room`, the arrays and the slices to fill are as in the sweep.
+// One year of the sweep: its figures from those of the year after. The arrays and the slices to fill are as in the sweep.
 ghost use Rattle.std.specs.Prelude.{◌≡◌, ◌*◌, ◌+◌, ◌^◌, ◌<◌, map, length, pos};
 ghost use Rattle.std.specs.Mem.{type_size};
 ghost use Rattle.basis.specs.Transitions.{moves};
