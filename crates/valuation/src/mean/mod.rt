@@ -1,5 +1,5 @@
 // The mean: figures are ticks, and a join is the mean of what follows.
-ghost use Rattle.std.specs.Prelude.{◌≡◌, ◌≤◌, pos, ◌+ℤ◌, ◌*ℤ◌, ◌≤ℤ◌, IfSome};
+ghost use Rattle.std.specs.Prelude.{◌≡◌, ◌≤◌, pos, ◌+ℤ◌, ◌*ℤ◌, ◌≤ℤ◌, ◌↔◌, IsTrue, IfSome};
 ghost use Rattle.std.specs.Int.{saturate_to_bits};
 ghost use Rattle.std.specs.List.{AllByRecursion};
 ghost use Rattle.units.specs.Near.{Within};
@@ -18,12 +18,18 @@ pub struct Mean;
 // A figure that is no larger fits 64 bits a million times over.
 const FITTING: i64 = 5_000_000_000_000;
 
+fn is_fitting(figure: i64) -> bool
+    ensures { IsTrue result ↔ LawfulFigure figure }
+{
+    -FITTING <= figure && figure <= FITTING
+}
+
 // So many parts of a million of a figure, in millionths of a tick.
 fn parts_of(share: u32, figure: i64) -> i64
     ensures { result ≡ saturate_to_bits 63 (pos share *ℤ figure) }
 {
     // Most products fit at once, and to test the ranges takes less time than to test the product.
-    if share <= MILLION && -FITTING <= figure && figure <= FITTING {
+    if share <= MILLION && is_fitting(figure) {
         i64::from(share) * figure
     } else {
         i64::from(share).saturating_mul(figure)
@@ -47,7 +53,7 @@ fn exact_sum(row: &[u32], following: &[i64]) -> Option<i64>
     let mut sum = 0i64;
     let mut left = MILLION;
     for (share, figure) in row.iter().zip(following.iter()) {
-        if *share > left || *figure < -FITTING || *figure > FITTING {
+        if *share > left || !is_fitting(*figure) {
             return None;
         }
         left -= *share;
@@ -111,7 +117,12 @@ impl Valuation for Mean {
         ensures meaning { result ≡ mean.add figure amount }
         ensures formula { LawfulFigure figure → LawfulFigure amount → result ≡ figure +ℤ amount }
     {
-        figure.saturating_add(amount)
+        // As for products, the ranges are soon tested.
+        if is_fitting(figure) && is_fitting(amount) {
+            figure + amount
+        } else {
+            figure.saturating_add(amount)
+        }
     }
 
     fn join(&self, _state: usize, row: &[u32], following: &[i64]) -> i64

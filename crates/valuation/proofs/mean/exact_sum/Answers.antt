@@ -1,24 +1,19 @@
-use Rattle.std.proofs.Common.{◌≡◌, ◌+◌, ◌-◌, ◌*◌, ◌≤◌, ◌∙◌, pos, ◌+ℤ◌, ◌*ℤ◌, w64, to_z, of_z, ap₂, sym, arith, rules}
-use Rattle.std.proofs.lemmas.Int.{ints}
+use Rattle.std.proofs.Common.{◌≡◌, ◌+◌, ◌-◌, ◌≤◌, ◌∙◌, w64, to_z, of_z, ap₂, sym, arith, rules}
 use Rattle.std.proofs.lemmas.Slice.Zip.{either_empty_from_Zip}
-use Rattle.units.specs.Near.{Within}
 use Rattle.units.specs.Ranges.{million}
 use Rattle.units.proofs.Distances.{within_more}
 use Rattle.valuation.specs.Means.{weighted, LawfulFigure}
-use Rattle.valuation.proofs.Sums.{most, weighted_all, part_within, part_is}
+use Rattle.valuation.proofs.Sums.{weighted_all, part_within, part_is}
 use Rattle.valuation.proofs.mean.exact_sum.Goals as goal
 
 pub add_part-sum-requires-clause-share : goal.add_part-sum-requires-clause-share
 add_part-sum-requires-clause-share c = omega (arith, c.if-share-left.false, c.loop-share.invariant.1)
 
-pub add_part-sum-requires-clause-figure : goal.add_part-sum-requires-clause-figure
-add_part-sum-requires-clause-figure c = record { low = grind (arith, ints, c.if-figure.false); high = grind (arith, ints, c.if-figure-gt-FITTING.false) }
-
 pub add_part-sum-requires-clause-room : goal.add_part-sum-requires-clause-room
 add_part-sum-requires-clause-room c =
     let had = million - c.loop-share.left in
     let whole : had + c.in-Some.share.now ≤ million = omega (arith, c.if-share-left.false, c.loop-share.invariant.1) in
-    let lawful : LawfulFigure (to_z w64 (of_z w64 c.in-Some.figure.now)) = record { low = grind (arith, ints, c.if-figure.false); high = grind (arith, ints, c.if-figure-gt-FITTING.false) } in
+    let lawful : LawfulFigure (to_z w64 (of_z w64 c.in-Some.figure.now)) = search rules in
     let small = c.loop-share.invariant.2 had (omega (arith, c.loop-share.invariant.1)) in
     within_more (omega (arith, whole)) (part_within had c.in-Some.share.now _ _ small lawful)
 
@@ -27,7 +22,7 @@ loop-share-preserved c =
     let had = million - c.loop-share.left in
     let share = c.in-Some.share.now in
     let whole : had + share ≤ million = omega (arith, c.if-share-left.false, c.loop-share.invariant.1) in
-    let lawful : LawfulFigure (to_z w64 (of_z w64 c.in-Some.figure.now)) = record { low = grind (arith, ints, c.if-figure.false); high = grind (arith, ints, c.if-figure-gt-FITTING.false) } in
+    let lawful : LawfulFigure (to_z w64 (of_z w64 c.in-Some.figure.now)) = search rules in
     let small = c.loop-share.invariant.2 had (omega (arith, c.loop-share.invariant.1)) in
     let read : to_z w64 (of_z w64 c.in-Some.figure.now) ≡ c.in-Some.figure.now = search rules in
     let kept : to_z w64 (of_z w64 c.add_part-sum.result) ≡ c.add_part-sum.result = search rules in
