@@ -8,7 +8,12 @@ ghost use Rattle.valuation.specs.Means.{rounded_mean, rounded_discount, mean, La
 ghost use Rattle.valuation.specs.Orders.{mean_ordered};
 ghost use Rattle.std.proofs.Common.{rules};
 
+mod moves;
+
 use crate::Valuation;
+use basis::Basis;
+use moves::{exact_moves, nearest_moves};
+use plan::Plan;
 use units::MILLION;
 use units::rounding::nearest;
 
@@ -130,6 +135,20 @@ impl Valuation for Mean {
         ensures formula { LawfulRow row.now → AllByRecursion LawfulFigure following.now → result ≡ rounded_mean (products row.now following.now) }
     {
         round_mean(sum_of(row, following))
+    }
+
+    fn join_moves<B: Basis, P: Plan>(
+        &self,
+        basis: &B,
+        plan: &P,
+        state: usize,
+        year: usize,
+        after: &[i64],
+    ) -> i64 {
+        match exact_moves(basis, plan, state, year, after) {
+            Some(sum) => round_mean(sum),
+            None => round_mean(nearest_moves(basis, plan, state, year, after)),
+        }
     }
 
     #[tactic(auto, using(crate::proofs::Agreement::discount_is))]
