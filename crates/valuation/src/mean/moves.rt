@@ -1,5 +1,5 @@
 // The sum of what follows a state, each figure times its share, with no row between.
-ghost use Rattle.std.specs.Prelude.{◌≡◌, ◌≤◌, ◌↔◌, get_or, length, pos, ◌+ℤ◌, ◌*ℤ◌, IsTrue, IfSome};
+ghost use Rattle.std.specs.Prelude.{◌≡◌, ℕ, ◌≤◌, ◌↔◌, get_or, length, pos, ◌+ℤ◌, ◌*ℤ◌, IsTrue, IfSome};
 ghost use Rattle.units.specs.Near.{Within};
 ghost use Rattle.units.specs.Ranges.{million, limit};
 ghost use Rattle.valuation.specs.Figures.{joined};
@@ -16,6 +16,18 @@ fn is_roomy(figure: i64) -> bool
     ensures { IsTrue result ↔ Within 4990000000000 figure }
 {
     -ROOMY <= figure && figure <= ROOMY
+}
+
+// Whether all figures leave such room. A loop of its own, so that no test breaks off the sum.
+fn all_roomy(after: &[i64]) -> bool
+    ensures { IsTrue result → (j : ℕ) → Within 4990000000000 (get_or after.now j (pos 0)) }
+{
+    for place in 0..after.len() {
+        if !is_roomy(after[place]) {
+            return false;
+        }
+    }
+    true
 }
 
 // A sum with one more part in it, of a figure that is raised by an amount.
@@ -40,22 +52,20 @@ pub(super) fn exact_moves<B: Basis, P: Plan>(
     ensures { IfSome result (λ sum. rounded_mean sum ≡ joined mean (B.meaning basis.now) (P.payments plan.now) state year (λ j. get_or after.now j (pos 0))) }
 {
     let states = basis.states();
-    if after.len() != states || year >= basis.years() {
+    if after.len() != states || year >= basis.years() || !all_roomy(after) {
         return None;
     }
     let mut sum = 0i64;
     for to in 0..states {
-        let figure = after[to];
-        if !is_roomy(figure) {
-            return None;
-        }
         let share = basis.share(state, to, year);
-        sum = add_move(sum, share, figure, plan.move_benefit(state, to, year));
+        sum = add_move(sum, share, after[to], plan.move_benefit(state, to, year));
     }
     Some(sum)
 }
 
 // The sum, each time as near as 64 bits allow.
+#[cold]
+#[inline(never)]
 pub(super) fn nearest_moves<B: Basis, P: Plan>(
     basis: &B,
     plan: &P,

@@ -1,5 +1,4 @@
-use Rattle.std.proofs.Common.{◌≡◌, ℕ, ◌<◌, ◌≤◌, get_or, pos}
-use Rattle.units.specs.Near.{Within}
+use Rattle.std.proofs.Common.{◌≡◌, ◌≤◌, get_or, pos}
 use Rattle.valuation.proofs.Steps.{so_far}
 use Rattle.valuation.proofs.mean.moves.exact_moves.Given as goal
 
@@ -7,4 +6,3 @@ abbrev pub invariant-loop-to : goal.invariant-loop-to
 invariant-loop-to g l =
     (l.sum ≡ so_far (g.B.Basis.meaning l.basis) (g.P.Plan.payments l.plan) l.state l.year (λ j. get_or l.after j (pos 0)) l.to)
     × (l.to ≤ l.states)
-    × ((j : ℕ) → j < l.to → Within 4990000000000 (get_or l.after j (pos 0)))
