@@ -12,6 +12,7 @@ pub mod Range
 pub mod Rounded
 pub mod Rows
 pub mod SpanAgreement
+pub mod Steps
 pub mod Sums
 pub mod WorkedCase
 pub mod Years

@@ -1,14 +1,16 @@
 // Valuations: what a contract is worth in each state and year, by one backward sweep over a basis and a plan.
 #![tactic(auto)]
 
-ghost use Rattle.std.specs.Prelude.{◌≡◌, ◌*◌, ◌^◌, ◌<◌};
+ghost use Rattle.std.specs.Prelude.{◌≡◌, ◌*◌, ◌^◌, ◌<◌, get_or, length, pos};
 ghost use Rattle.std.specs.Mem.{type_size};
+ghost use Rattle.valuation.specs.Figures.{joined};
 ghost use Rattle.valuation.specs.Operations.{Operations, Ordered};
 
 pub mod course;
 pub mod figure;
 mod fill;
 pub mod mean;
+mod moves;
 pub mod pricing;
 pub mod reserve;
 pub mod span;
@@ -16,6 +18,11 @@ mod sweep;
 #[cfg(test)]
 mod tests;
 mod year;
+
+use basis::Basis;
+use moves::fill_row;
+use plan::Plan;
+use units::MOST_STATES;
 
 // How the sweep reckons with figures of one kind. Each call has an answer for all arguments,
 // and raising the amount or a figure that it is given never lowers that answer.
@@ -36,6 +43,31 @@ pub trait Valuation {
     // What the figures that follow the moves out of a state come to, on the row of their shares.
     fn join(&self, state: usize, row: &[u32], following: &[Self::Figure]) -> Self::Figure
         ensures { result ≡ (operations self.now).join state row.now following.now };
+
+    // The join of what follows a state in a year, where `after` has the figures of all states a year later. A valuation may write
+    // its own, as where it finds the join in one go.
+    fn join_moves<B: Basis, P: Plan>(
+        &self,
+        basis: &B,
+        plan: &P,
+        state: usize,
+        year: usize,
+        after: &[Self::Figure],
+    ) -> Self::Figure
+        ensures { length after.now ≡ (B.meaning basis.now).states → result ≡ joined (operations self.now) (B.meaning basis.now) (P.payments plan.now) state year (λ j. get_or after.now j ((operations self.now).make (pos 0))) }
+    {
+        let states = after.len().min(MOST_STATES);
+        let mut shares = [0u32; MOST_STATES];
+        let mut follows = [self.make(0); MOST_STATES];
+        let row = &mut shares[..states];
+        let following = &mut follows[..states];
+        fill_row(basis, state, year, row);
+        for (to, place) in following.iter_mut().enumerate() {
+            let benefit = plan.move_benefit(state, to, year) as i64;
+            *place = self.add(after[to], benefit);
+        }
+        self.join(state, row, following)
+    }
 
     fn discount(&self, factor: u32, figure: Self::Figure) -> Self::Figure
         ensures { result ≡ (operations self.now).discount factor figure };

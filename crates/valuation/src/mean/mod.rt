@@ -1,23 +1,91 @@
 // The mean: figures are ticks, and a join is the mean of what follows.
-ghost use Rattle.std.specs.Prelude.{◌≡◌, ◌≤◌, pos, ◌+ℤ◌, ◌*ℤ◌, ◌≤ℤ◌};
+ghost use Rattle.std.specs.Prelude.{◌≡◌, ◌≤◌, pos, ◌+ℤ◌, ◌*ℤ◌, ◌≤ℤ◌, ◌↔◌, IsTrue, IfSome};
 ghost use Rattle.std.specs.Int.{saturate_to_bits};
 ghost use Rattle.std.specs.List.{AllByRecursion};
+ghost use Rattle.units.specs.Near.{Within};
 ghost use Rattle.units.specs.Ranges.{million};
-ghost use Rattle.valuation.specs.Means.{rounded_mean, rounded_discount, mean, LawfulFigure, LawfulRow, products};
+ghost use Rattle.valuation.specs.Means.{rounded_mean, rounded_discount, mean, LawfulFigure, LawfulRow, products, weighted};
 ghost use Rattle.valuation.specs.Orders.{mean_ordered};
 ghost use Rattle.std.proofs.Common.{rules};
 
+mod moves;
+
 use crate::Valuation;
+use basis::Basis;
+use moves::{exact_moves, nearest_moves};
+use plan::Plan;
+use units::MILLION;
 use units::rounding::nearest;
 
 #[derive(Clone, Copy)]
 pub struct Mean;
 
+// A figure that is no larger fits 64 bits a million times over.
+const FITTING: i64 = 5_000_000_000_000;
+
+fn is_fitting(figure: i64) -> bool
+    ensures { IsTrue result ↔ LawfulFigure figure }
+{
+    -FITTING <= figure && figure <= FITTING
+}
+
 // So many parts of a million of a figure, in millionths of a tick.
 fn parts_of(share: u32, figure: i64) -> i64
     ensures { result ≡ saturate_to_bits 63 (pos share *ℤ figure) }
 {
-    i64::from(share).saturating_mul(figure)
+    // Most products fit at once, and to test the ranges takes less time than to test the product.
+    if share <= MILLION && is_fitting(figure) {
+        i64::from(share) * figure
+    } else {
+        i64::from(share).saturating_mul(figure)
+    }
+}
+
+// A sum with one more part in it, in a range where nothing has to saturate.
+fn add_part(sum: i64, share: u32, figure: i64) -> i64
+    requires share { share ≤ million }
+    requires figure { LawfulFigure figure }
+    requires room { Within 9000000000000000000 (sum +ℤ pos share *ℤ figure) }
+    ensures { result ≡ sum +ℤ pos share *ℤ figure }
+{
+    sum + i64::from(share) * figure
+}
+
+// The sum of a row's parts, where the row is no more than a whole and all figures are in the range: nothing has to saturate.
+fn exact_sum(row: &[u32], following: &[i64]) -> Option<i64>
+    ensures { IfSome result (λ sum. sum ≡ weighted (pos 0) row.now following.now) }
+{
+    let mut sum = 0i64;
+    let mut left = MILLION;
+    for (share, figure) in row.iter().zip(following.iter()) {
+        if *share > left || !is_fitting(*figure) {
+            return None;
+        }
+        left -= *share;
+        sum = add_part(sum, *share, *figure);
+    }
+    Some(sum)
+}
+
+// The sum of a row's parts, each time as near as 64 bits allow.
+fn nearest_sum(row: &[u32], following: &[i64]) -> i64
+    ensures { result ≡ weighted (pos 0) row.now following.now }
+{
+    let mut sum = 0i64;
+    for (share, figure) in row.iter().zip(following.iter()) {
+        sum = sum.saturating_add(parts_of(*share, *figure));
+    }
+    sum
+}
+
+// The sum of a row's parts.
+fn sum_of(row: &[u32], following: &[i64]) -> i64
+    ensures { result ≡ weighted (pos 0) row.now following.now }
+{
+    match exact_sum(row, following) {
+        Some(sum) => sum,
+        None => nearest_sum(row, following),
+    }
 }
 
 // How a mean, in millionths of a tick, is rounded.
@@ -54,18 +122,33 @@ impl Valuation for Mean {
         ensures meaning { result ≡ mean.add figure amount }
         ensures formula { LawfulFigure figure → LawfulFigure amount → result ≡ figure +ℤ amount }
     {
-        figure.saturating_add(amount)
+        // As for products, the ranges are soon tested.
+        if is_fitting(figure) && is_fitting(amount) {
+            figure + amount
+        } else {
+            figure.saturating_add(amount)
+        }
     }
 
     fn join(&self, _state: usize, row: &[u32], following: &[i64]) -> i64
         ensures meaning { result ≡ mean.join _state row.now following.now }
         ensures formula { LawfulRow row.now → AllByRecursion LawfulFigure following.now → result ≡ rounded_mean (products row.now following.now) }
     {
-        let mut sum = 0i64;
-        for (share, figure) in row.iter().zip(following.iter()) {
-            sum = sum.saturating_add(parts_of(*share, *figure));
+        round_mean(sum_of(row, following))
+    }
+
+    fn join_moves<B: Basis, P: Plan>(
+        &self,
+        basis: &B,
+        plan: &P,
+        state: usize,
+        year: usize,
+        after: &[i64],
+    ) -> i64 {
+        match exact_moves(basis, plan, state, year, after) {
+            Some(sum) => round_mean(sum),
+            None => round_mean(nearest_moves(basis, plan, state, year, after)),
         }
-        round_mean(sum)
     }
 
     #[tactic(auto, using(crate::proofs::Agreement::discount_is))]
