@@ -1,23 +1,55 @@
 // The engine, through its exports to C.
 use crate::contract::Contract;
+use crate::question::Question;
 use std::ffi::c_uchar;
+
+// A slice in a struct.
+#[repr(C)]
+struct Column {
+    start: *const i64,
+    length: usize,
+}
+
+impl Column {
+    fn of(entries: &[i64]) -> Self {
+        Column {
+            start: entries.as_ptr(),
+            length: entries.len(),
+        }
+    }
+}
+
+#[repr(C)]
+struct Columns {
+    states: usize,
+    years: usize,
+    factors: Column,
+    shares: Column,
+    plan_years: usize,
+    benefits: Column,
+    marks: Column,
+    moves: Column,
+}
+
+impl Columns {
+    fn of(contract: &Contract) -> Self {
+        Columns {
+            states: contract.states,
+            years: contract.years,
+            factors: Column::of(&contract.factors),
+            shares: Column::of(&contract.shares),
+            plan_years: contract.plan_years,
+            benefits: Column::of(&contract.benefits),
+            marks: Column::of(&contract.marks),
+            moves: Column::of(&contract.moves),
+        }
+    }
+}
 
 // A slice crosses as a pointer and a length.
 unsafe extern "C" {
     fn fineochre_reserves(
-        states: usize,
-        years: usize,
-        factors: *const i64,
-        factor_count: usize,
-        shares: *const i64,
-        share_count: usize,
-        plan_years: usize,
-        benefits: *const i64,
-        benefit_count: usize,
-        marks: *const i64,
-        mark_count: usize,
-        moves: *const i64,
-        move_count: usize,
+        columns: *const Columns,
         state: usize,
         year: usize,
         premiums: *const i64,
@@ -25,42 +57,85 @@ unsafe extern "C" {
         reserves: *mut i64,
         reserve_count: usize,
     ) -> c_uchar;
+
+    fn fineochre_spans(
+        columns: *const Columns,
+        state: usize,
+        year: usize,
+        premiums: *const i64,
+        premium_count: usize,
+        least: *mut i64,
+        least_count: usize,
+        greatest: *mut i64,
+        greatest_count: usize,
+    ) -> c_uchar;
+
+    fn fineochre_course(
+        columns: *const Columns,
+        premium: i64,
+        year: usize,
+        column: *mut i64,
+        column_length: usize,
+    ) -> c_uchar;
+
+    fn fineochre_premiums(
+        columns: *const Columns,
+        state: usize,
+        year: usize,
+        bounds: *const i64,
+        bound_count: usize,
+        premiums: *mut i64,
+        premium_count: usize,
+    ) -> c_uchar;
 }
 
-// Writes the reserves in a state and a year, one at each of the premiums, or answers the number of the first refusal.
-pub fn reserves(
-    contract: &Contract,
-    state: usize,
-    year: usize,
-    premiums: &[i64],
-    reserves: &mut [i64],
-) -> Result<(), u8> {
-    // Each pointer and its length are those of one slice, which outlives the call.
-    let answer = unsafe {
-        fineochre_reserves(
-            contract.states,
-            contract.years,
-            contract.factors.as_ptr(),
-            contract.factors.len(),
-            contract.shares.as_ptr(),
-            contract.shares.len(),
-            contract.plan_years,
-            contract.benefits.as_ptr(),
-            contract.benefits.len(),
-            contract.marks.as_ptr(),
-            contract.marks.len(),
-            contract.moves.as_ptr(),
-            contract.moves.len(),
+// Writes what is asked to the places, and answers 0 or the number of the first refusal. Below, each pointer and its length are
+// those of one slice, which outlives the call.
+pub fn answer(contract: &Contract, question: &Question, places: &mut [i64]) -> u8 {
+    let columns = Columns::of(contract);
+    let (to, count) = (places.as_mut_ptr(), places.len());
+    match *question {
+        Question::Reserves {
+            state,
+            year,
+            premiums,
+        } => {
+            let (from, length) = (premiums.as_ptr(), premiums.len());
+            unsafe { fineochre_reserves(&columns, state, year, from, length, to, count) }
+        }
+        Question::Spans {
+            state,
+            year,
+            premiums,
+        } => spans(&columns, state, year, premiums, places),
+        Question::Course { year, premium } => unsafe {
+            fineochre_course(&columns, premium, year, to, count)
+        },
+        Question::Premiums {
+            state,
+            year,
+            bounds,
+        } => {
+            let (from, length) = (bounds.as_ptr(), bounds.len());
+            unsafe { fineochre_premiums(&columns, state, year, from, length, to, count) }
+        }
+    }
+}
+
+// The least ends go to the first half of the places, the greatest to the second.
+fn spans(columns: &Columns, state: usize, year: usize, premiums: &[i64], places: &mut [i64]) -> u8 {
+    let (least, greatest) = places.split_at_mut(places.len() / 2);
+    unsafe {
+        fineochre_spans(
+            columns,
             state,
             year,
             premiums.as_ptr(),
             premiums.len(),
-            reserves.as_mut_ptr(),
-            reserves.len(),
+            least.as_mut_ptr(),
+            least.len(),
+            greatest.as_mut_ptr(),
+            greatest.len(),
         )
-    };
-    match answer {
-        0 => Ok(()),
-        number => Err(number),
     }
 }

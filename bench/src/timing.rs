@@ -1,7 +1,29 @@
 // The times of both sides, taken in turn so that the machine's moods fall on both.
+use crate::contract::Contract;
+use crate::question::Question;
+use crate::{engine, plain};
+use std::hint::black_box;
 use std::time::{Duration, Instant};
 
-const ROUNDS: usize = 400;
+pub const ROUNDS: usize = 400;
+
+// What a round asks for many pieces of work, and what it asks for none: all else that a call does, as taking columns in, is in both.
+pub struct Work<'a> {
+    pub all: Vec<Question<'a>>,
+    pub none: Vec<Question<'a>>,
+    pub pieces: usize,
+}
+
+impl<'a> Work<'a> {
+    // One call for all entries, against one for none.
+    pub fn of_one_call(ask: impl Fn(&'a [i64]) -> Question<'a>, entries: &'a [i64]) -> Self {
+        Work {
+            all: vec![ask(entries)],
+            none: vec![ask(&[])],
+            pieces: entries.len(),
+        }
+    }
+}
 
 // What one piece of work takes on either side, in nanoseconds: the best of all rounds, in which other programs were least in the way.
 pub struct Times {
@@ -9,40 +31,39 @@ pub struct Times {
     pub plain: f64,
 }
 
-fn time(work: impl FnOnce()) -> Duration {
+type Side = fn(&Contract, &Question, &mut [i64]) -> u8;
+
+fn time(side: Side, contract: &Contract, questions: &[Question], places: &mut [i64]) -> Duration {
     let start = Instant::now();
-    work();
+    for question in questions {
+        let count = question.places(contract);
+        let number = side(black_box(contract), question, &mut places[..count]);
+        assert_eq!(number, 0, "a timed contract is lawful");
+        black_box(&mut *places);
+    }
     start.elapsed()
 }
 
-fn best_of(times: &[Duration]) -> f64 {
-    times
-        .iter()
-        .min()
-        .map_or(0.0, |time| time.as_nanos() as f64)
+// What a piece takes beyond what is asked for none.
+fn piece(all: Duration, none: Duration, pieces: usize) -> f64 {
+    (all.as_nanos() as f64 - none.as_nanos() as f64) / pieces as f64
 }
 
-// What a call takes for each piece of work, beyond what it takes for none, as for taking its columns in.
-fn piece(with: &[Duration], without: &[Duration], count: usize) -> f64 {
-    (best_of(with) - best_of(without)) / count as f64
-}
-
-// Times calls that do so many pieces of work.
-pub fn compare(engine: impl Fn(usize), plain: impl Fn(usize), count: usize) -> Times {
-    let [
-        mut engine_with,
-        mut engine_without,
-        mut plain_with,
-        mut plain_without,
-    ] = [const { Vec::new() }; 4];
+pub fn compare(contract: &Contract, work: &Work) -> Times {
+    let most = work.all.iter().map(|question| question.places(contract));
+    let mut places = vec![0; most.max().unwrap_or(0)];
+    let mut best = [Duration::MAX; 4];
     for _ in 0..ROUNDS {
-        engine_with.push(time(|| engine(count)));
-        plain_with.push(time(|| plain(count)));
-        engine_without.push(time(|| engine(0)));
-        plain_without.push(time(|| plain(0)));
+        let times = [
+            time(engine::answer, contract, &work.all, &mut places),
+            time(plain::answer, contract, &work.all, &mut places),
+            time(engine::answer, contract, &work.none, &mut places),
+            time(plain::answer, contract, &work.none, &mut places),
+        ];
+        best = std::array::from_fn(|k| best[k].min(times[k]));
     }
     Times {
-        engine: piece(&engine_with, &engine_without, count),
-        plain: piece(&plain_with, &plain_without, count),
+        engine: piece(best[0], best[2], work.pieces),
+        plain: piece(best[1], best[3], work.pieces),
     }
 }

@@ -5,7 +5,6 @@ use Rattle.basis.specs.declared.table.TransitionTable.{TransitionTable}
 use Rattle.plan.specs.PaymentTables as payment_tables
 use Rattle.plan.specs.PaymentColumns.{tabled}
 use Rattle.plan.specs.declared.table.PaymentTable.{PaymentTable}
-use Rattle.c_interface.specs.Outcomes.{basis_of}
 
 back : (xs : List ℕ) → map unsigned_abs (map pos xs) ≡ xs
 back [] = refl
@@ -14,7 +13,7 @@ back (x ∷ xs) = ap (λ ys. x ∷ ys) (back xs)
 kept : (xs : List ℕ) (column : List ℤ) → map pos xs ≡ column → xs ≡ map unsigned_abs column
 kept xs column so = sym (back xs) ∙ ap (map unsigned_abs) so
 
-pub basis_is : (s : TransitionTable) (m : ℕ) (factors shares : List ℤ) → transition_tables.Holds s m factors shares → transition_tables.transition_table s ≡ basis_of m factors shares
+pub basis_is : (s : TransitionTable) (m : ℕ) (factors shares : List ℤ) → transition_tables.Holds s m factors shares → transition_tables.transition_table s ≡ transition_tables.tabled m (map unsigned_abs factors) (map unsigned_abs shares)
 basis_is s m factors shares holds =
     ap (λ i. transition_tables.tabled i (vec_items s.factors) (vec_items s.shares)) holds.states
     ∙ ap (λ xs. transition_tables.tabled m xs (vec_items s.shares)) (kept (vec_items s.factors) factors holds.discount)

@@ -1,52 +1,89 @@
 -- What a call from C answers, and what it leaves where it writes. Assumes nothing.
-use Rattle.std.specs.Prelude.{◌≡◌, ℕ, ◌<◌, List, map, length, ℤ, pos, slice_index_or, unsigned_abs}
+use Rattle.std.specs.Prelude.{◌≡◌, ℕ, ◌<◌, ◌≤◌, List, length, ℤ, pos, negsuc, slice_index_or, unsigned_abs}
 use Rattle.units.specs.Columns.{AllBetween}
-use Rattle.units.specs.Ranges.{limit}
-use Rattle.units.specs.declared.failure.Failure.{Failure}
-use Rattle.units.specs.declared.failure.Failure.TheVariants.{Refused, NoMemory}
+use Rattle.units.specs.Ranges.{limit, WithinLimit}
+use Rattle.units.specs.declared.fault.Fault.{Fault}
 use Rattle.basis.specs.Transitions.{Transitions}
-use Rattle.basis.specs.TransitionColumns as transitions
-use Rattle.basis.specs.TransitionTables as transition_tables
 use Rattle.plan.specs.Payments.{Payments}
-use Rattle.plan.specs.PaymentColumns as payments
-use Rattle.plan.specs.PaymentTables as payment_tables
-use Rattle.plan.specs.declared.table.PaymentTable.{PaymentTable}
+use Rattle.valuation.specs.Courses.{Writes, Refuses}
+use Rattle.valuation.specs.Premiums.{Suffices, LeastPremium}
 use Rattle.valuation.specs.Reserves.{reserve}
+use Rattle.valuation.specs.Spans as spans
+use Rattle.c_interface.specs.Columns.{FitColumns, basis_of, plan_of, Stops}
+use Rattle.c_interface.specs.declared.columns.Columns.{Columns}
 
--- the words of a plan's columns, under names that those of a basis leave free
-abbrev pub FitPlan : ℕ → List ℤ → List ℤ → List ℤ → Type 0
-FitPlan = payments.Fit
+-- ---- what is written
 
-abbrev pub HoldsPlan : PaymentTable → ℕ → List ℤ → List ℤ → List ℤ → Type 0
-HoldsPlan = payment_tables.Holds
+-- the entry at a place, and the premium that it stands for
+abbrev pub entry : List ℤ → ℕ → ℤ
+entry column k = slice_index_or column k (pos 0)
 
--- the basis of columns of factors and shares that are not below 0
-abbrev pub basis_of : ℕ → List ℤ → List ℤ → Transitions
-basis_of m factors shares = transition_tables.tabled m (map unsigned_abs factors) (map unsigned_abs shares)
+abbrev pub premium_at : List ℤ → ℕ → ℕ
+premium_at premiums k = unsigned_abs (entry premiums k)
 
--- each place has the reserve in state i and year t at the premium of that place
-abbrev pub ReservesAt : Transitions → Payments → ℕ → ℕ → List ℤ → List ℤ → Type 0
-ReservesAt c p i t premiums reserves = (k : ℕ) → k < length premiums → slice_index_or reserves k (pos 0) ≡ reserve c p (unsigned_abs (slice_index_or premiums k (pos 0))) i t
+-- each place below k has the value in state i and year t at the premium of that place
+abbrev pub ValuesBelow : ℕ → (ℕ → ℕ → ℕ → ℤ) → ℕ → ℕ → List ℤ → List ℤ → Type 0
+ValuesBelow below value i t premiums column = (k : ℕ) → k < below → entry column k ≡ value (premium_at premiums k) i t
 
--- the number by which C is told of a failure
-abbrev pub failure_number : Failure → ℕ
-failure_number (Refused fault) = fault.number
-failure_number NoMemory = 3
+module _ (c : Transitions) (p : Payments) (i t : ℕ) where
+  abbrev pub ReservesAt : List ℤ → List ℤ → Type 0
+  ReservesAt premiums reserves = ValuesBelow (length premiums) (reserve c p) i t premiums reserves
 
--- why no basis, and why no plan, is made of what is handed in
-abbrev pub StopsBasis : ℕ → ℕ → List ℤ → List ℤ → Failure → Type 0
-StopsBasis m n factors shares (Refused fault) = transitions.Refuses m n factors shares fault
-StopsBasis m n factors shares NoMemory = Unit {0}
+  -- the ends of the spans in two columns
+  pub record SpansAt (premiums low high : List ℤ) : Type 0 where
+    pub least : ValuesBelow (length premiums) (spans.least c p) i t premiums low
+    pub greatest : ValuesBelow (length premiums) (spans.greatest c p) i t premiums high
 
-abbrev pub StopsPlan : ℕ → List ℤ → List ℤ → List ℤ → Failure → Type 0
-StopsPlan k benefits marks moves (Refused fault) = payments.Refuses k benefits marks moves fault
-StopsPlan k benefits marks moves NoMemory = Unit {0}
+  -- what is written for a bound: the least premium that suffices, or -1 where none does
+  pub data PremiumFor (bound written : ℤ) : Type 0 where
+    least_premium : (premium : ℕ) → written ≡ pos premium → LeastPremium c p i t bound premium → PremiumFor bound written
+    no_premium : written ≡ negsuc 0 → ((premium : ℕ) → premium ≤ limit → Suffices c p i t bound premium → ⊥) → PremiumFor bound written
 
-module _ (m n : ℕ) (factors shares : List ℤ) (k : ℕ) (benefits marks moves : List ℤ) (i t : ℕ) (premiums before after : List ℤ) where
-  -- the number that a call for reserves answers, with the reserves before and after it
-  pub data Reserves (answer : ℕ) : Type 0 where
-    unfit_places : answer ≡ 1 → (length before ≡ length premiums → ⊥) → after ≡ before → Reserves answer
-    unfit_premium : answer ≡ 2 → (AllBetween (pos 0) (pos limit) premiums → ⊥) → after ≡ before → Reserves answer
-    no_basis : (failure : Failure) → answer ≡ failure_number failure → StopsBasis m n factors shares failure → after ≡ before → Reserves answer
-    no_plan : (failure : Failure) → answer ≡ failure_number failure → transitions.Fit m n factors shares → StopsPlan k benefits marks moves failure → after ≡ before → Reserves answer
-    done : answer ≡ 0 → transitions.Fit m n factors shares → payments.Fit k benefits marks moves → AllBetween (pos 0) (pos limit) premiums → length after ≡ length premiums → ReservesAt (basis_of m factors shares) (payments.tabled k benefits marks moves) i t premiums after → Reserves answer
+  abbrev pub PremiumsBelow : ℕ → List ℤ → List ℤ → Type 0
+  PremiumsBelow below bounds premiums = (k : ℕ) → k < below → PremiumFor (entry bounds k) (entry premiums k)
+
+  abbrev pub PremiumsFor : List ℤ → List ℤ → Type 0
+  PremiumsFor bounds premiums = PremiumsBelow (length bounds) bounds premiums
+
+-- ---- what is answered
+
+-- the number that a call answers which wants places and premiums to fit, makes tables of columns, and then does what it is for
+pub data Outcome (c : Columns) (FitPlaces FitPremiums Unchanged : Type 0) (Done : ℕ → Type 0) (answer : ℕ) : Type 0 where
+  unfit_places : answer ≡ 253 → (FitPlaces → ⊥) → Unchanged → Outcome c FitPlaces FitPremiums Unchanged Done answer
+  unfit_premiums : answer ≡ 254 → FitPlaces → (FitPremiums → ⊥) → Unchanged → Outcome c FitPlaces FitPremiums Unchanged Done answer
+  no_tables : FitPlaces → FitPremiums → Stops c answer → Unchanged → Outcome c FitPlaces FitPremiums Unchanged Done answer
+  done : FitPlaces → FitPremiums → FitColumns c → Done answer → Outcome c FitPlaces FitPremiums Unchanged Done answer
+
+-- all that is asked for is written, on the basis and the plan of the columns
+pub record Written (c : Columns) (What : Transitions → Payments → Type 0) (answer : ℕ) : Type 0 where
+  pub told : answer ≡ 0
+  pub what : What (basis_of c) (plan_of c)
+
+-- the course is written, or refused where the column is too short for it
+pub data CourseEnds (c : Columns) (premium : ℤ) (t : ℕ) (before after : List ℤ) (answer : ℕ) : Type 0 where
+  course_written : answer ≡ 0 → Writes (basis_of c) (plan_of c) (unsigned_abs premium) t before after → CourseEnds c premium t before after answer
+  course_refused : (fault : Fault) → answer ≡ fault.number → Refuses (basis_of c) t before after fault → CourseEnds c premium t before after answer
+
+-- a column has as many places as another
+abbrev pub AsLong : List ℤ → List ℤ → Type 0
+AsLong column other = length column ≡ length other
+
+-- every entry is a premium
+abbrev pub AllPremiums : List ℤ → Type 0
+AllPremiums premiums = AllBetween (pos 0) (pos limit) premiums
+
+module _ (c : Columns) where
+  abbrev pub Reserves : ℕ → ℕ → List ℤ → List ℤ → List ℤ → ℕ → Type 0
+  Reserves i t premiums before after = Outcome c (AsLong before premiums) (AllPremiums premiums) (after ≡ before)
+      (Written c (λ b p. AsLong after premiums × ReservesAt b p i t premiums after))
+
+  abbrev pub Spans : ℕ → ℕ → List ℤ → List ℤ → List ℤ → List ℤ → List ℤ → ℕ → Type 0
+  Spans i t premiums least greatest new_least new_greatest = Outcome c (AsLong least premiums × AsLong greatest premiums) (AllPremiums premiums) ((new_least ≡ least) × (new_greatest ≡ greatest))
+      (Written c (λ b p. (AsLong new_least premiums × AsLong new_greatest premiums) × SpansAt b p i t premiums new_least new_greatest))
+
+  abbrev pub Course : ℤ → ℕ → List ℤ → List ℤ → ℕ → Type 0
+  Course premium t before after = Outcome c (Unit {0}) (WithinLimit premium) (after ≡ before) (CourseEnds c premium t before after)
+
+  abbrev pub Premiums : ℕ → ℕ → List ℤ → List ℤ → List ℤ → ℕ → Type 0
+  Premiums i t bounds before after = Outcome c (AsLong before bounds) (Unit {0}) (after ≡ before)
+      (Written c (λ b p. AsLong after bounds × PremiumsFor b p i t bounds after))

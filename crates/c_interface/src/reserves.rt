@@ -1,38 +1,56 @@
 // The reserves of a contract at several premiums.
 ghost use Rattle.std.specs.Prelude.{◌≡◌, length, pos};
 ghost use Rattle.units.specs.Columns.{AllBetween};
-ghost use Rattle.units.specs.Ranges.{limit, WithinLimit};
+ghost use Rattle.units.specs.Ranges.{limit};
 ghost use Rattle.basis.specs.TransitionTables.{transition_table};
 ghost use Rattle.plan.specs.PaymentTables.{payment_table};
-ghost use Rattle.c_interface.specs.Outcomes.{ReservesAt};
+ghost use Rattle.c_interface.specs.Outcomes.{Reserves, ReservesAt};
 
-use basis::table::TransitionTable;
-use plan::table::PaymentTable;
-use units::premium::Premium;
+use crate::columns::{Columns, Tables};
+use crate::{DONE, UNFIT_PLACES, UNFIT_PREMIUM, all_premiums, premium};
+use std::alloc::Global;
 use valuation::reserve::reserve;
 
-// The premium of an entry that was checked.
-fn premium(entry: i64) -> Premium
-    requires { WithinLimit entry }
-    ensures { pos result.ticks ≡ entry }
+// Writes at each place the reserve in a state and a year at the premium of that place.
+fn fill_reserves(tables: &Tables, state: usize, year: usize, premiums: &[i64], reserves: &mut [i64])
+    requires places { length reserves.old ≡ length premiums.now }
+    requires premiums { AllBetween (pos 0) (pos limit) premiums.now }
+    ensures { ReservesAt (transition_table tables.now.basis) (payment_table tables.now.plan) state year premiums.now reserves.new }
 {
-    Premium::new(entry).unwrap()
+    for (k, place) in reserves.iter_mut().enumerate() {
+        *place = reserve(
+            &tables.basis,
+            &tables.plan,
+            premium(premiums[k]),
+            state,
+            year,
+        );
+    }
 }
 
-// Writes at each place the reserve in a state and a year at the premium of that place.
-pub(crate) fn fill_reserves(
-    basis: &TransitionTable,
-    plan: &PaymentTable,
+// The reserves in a state and a year, one at each of the premiums.
+#[unsafe(no_mangle)]
+pub extern "C" fn fineochre_reserves(
+    heap: Global,
+    columns: &Columns,
     state: usize,
     year: usize,
     premiums: &[i64],
     reserves: &mut [i64],
-)
-    requires places { length reserves.old ≡ length premiums.now }
-    requires premiums { AllBetween (pos 0) (pos limit) premiums.now }
-    ensures { ReservesAt (transition_table basis.now) (payment_table plan.now) state year premiums.now reserves.new }
+) -> u8
+    ensures { Reserves columns.now state year premiums.now reserves.old reserves.new result }
 {
-    for (k, place) in reserves.iter_mut().enumerate() {
-        *place = reserve(basis, plan, premium(premiums[k]), state, year);
+    if reserves.len() != premiums.len() {
+        return UNFIT_PLACES;
+    }
+    if !all_premiums(premiums) {
+        return UNFIT_PREMIUM;
+    }
+    match columns.tables(heap) {
+        Ok(tables) => {
+            fill_reserves(&tables, state, year, premiums, reserves);
+            DONE
+        }
+        Err(number) => number,
     }
 }

@@ -1,0 +1,10 @@
+use Rattle.basis.specs.TransitionTables.{transition_table}
+use Rattle.plan.specs.PaymentTables.{payment_table}
+use Rattle.valuation.specs.Spans.{least, greatest}
+use Rattle.c_interface.specs.Outcomes.{ValuesBelow}
+use Rattle.c_interface.proofs.spans.fill_spans.Given as goal
+
+abbrev pub invariant-loop-k : goal.invariant-loop-k
+invariant-loop-k l =
+    ValuesBelow l.k (least (transition_table l.tables.basis) (payment_table l.tables.plan)) l.state l.year l.premiums l.least
+    × ValuesBelow l.k (greatest (transition_table l.tables.basis) (payment_table l.tables.plan)) l.state l.year l.premiums l.greatest
