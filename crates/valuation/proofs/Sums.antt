@@ -22,18 +22,8 @@ pub unsaturated : (z : ℤ) → Within 9000000000000000000 z → saturate_to_bit
 unsaturated z h = grind (arith, ints, h.low, h.high)
 
 -- the largest lawful figure: 64 bits hold its product with a million, and more
-abbrev pub most : ℕ
+abbrev most : ℕ
 most = 5000000000000
-
--- one part more, where the row has had `before` so far
-module _ (before p : ℕ) (so_far x : ℤ) (small : Within (before * most) so_far) (lawful : LawfulFigure x) where
-  pub part_within : Within ((before + p) * most) (so_far +ℤ pos p *ℤ x)
-  part_within = subst (λ d. Within d (so_far +ℤ pos p *ℤ x)) (sym (add-mul before p most)) (within_add small (within_times p lawful))
-
-  pub part_is : before + p ≤ million → saturate_to_bits 63 (so_far +ℤ saturate_to_bits 63 (pos p *ℤ x)) ≡ so_far +ℤ pos p *ℤ x
-  part_is whole =
-      let one : saturate_to_bits 63 (pos p *ℤ x) ≡ pos p *ℤ x = unsaturated _ (within_more (omega (arith, whole)) (within_times p lawful)) in
-      rw one (unsaturated _ (within_more (omega (arith, whole)) part_within))
 
 -- on a row that is no more than a whole nothing saturates; `before` is what the row has had so far
 pub weighted_is : (row : List ℕ) (xs : List ℤ) (before : ℕ) (so_far : ℤ) → before + sum row ≤ million → Within (before * most) so_far → AllByRecursion LawfulFigure xs → weighted so_far row xs ≡ so_far +ℤ products row xs
@@ -41,8 +31,11 @@ weighted_is [] xs before so_far whole small each = omega (arith, ints)
 weighted_is (p ∷ ps) [] before so_far whole small each = omega (arith, ints)
 weighted_is (p ∷ ps) (x ∷ xs) before so_far whole small each =
     let cons = sum_by-cons (λ q. q) p ps in
-    let more : Within ((before + p) * most) (so_far +ℤ pos p *ℤ x) = part_within before p so_far x small each.0 in
-    rw (part_is before p so_far x small each.0 (omega arith)) (weighted_is ps xs (before + p) (so_far +ℤ pos p *ℤ x) (omega arith) more each.1 ∙ +ℤ_assoc so_far (pos p *ℤ x) (products ps xs))
+    let part : Within (p * most) (pos p *ℤ x) = within_times p each.0 in
+    let more : Within ((before + p) * most) (so_far +ℤ pos p *ℤ x) = subst (λ d. Within d (so_far +ℤ pos p *ℤ x)) (sym (add-mul before p most)) (within_add small part) in
+    let one : saturate_to_bits 63 (pos p *ℤ x) ≡ pos p *ℤ x = unsaturated _ (within_more (omega arith) part) in
+    let both : saturate_to_bits 63 (so_far +ℤ pos p *ℤ x) ≡ so_far +ℤ pos p *ℤ x = unsaturated _ (within_more (omega arith) more) in
+    rw (one, both) (weighted_is ps xs (before + p) (so_far +ℤ pos p *ℤ x) (omega arith) more each.1 ∙ +ℤ_assoc so_far (pos p *ℤ x) (products ps xs))
 
 pub products_map : (share : ℕ → ℕ) (f : ℕ → ℤ) (js : List ℕ) → products (map share js) (map f js) ≡ int_sum_by (λ j. pos (share j) *ℤ f j) js
 products_map share f [] = refl

@@ -5,7 +5,7 @@ ghost use Rattle.units.specs.Ranges.{million, limit};
 ghost use Rattle.valuation.specs.Figures.{joined};
 ghost use Rattle.valuation.specs.Means.{mean, rounded_mean};
 
-use super::{add_part, parts_of};
+use super::parts_of;
 use basis::Basis;
 use plan::Plan;
 
@@ -38,7 +38,7 @@ fn add_move(sum: i64, share: u32, figure: i64, amount: u64) -> i64
     requires room { Within 9000000000000000000 (sum +ℤ pos share *ℤ (pos amount +ℤ figure)) }
     ensures { result ≡ sum +ℤ pos share *ℤ (pos amount +ℤ figure) }
 {
-    add_part(sum, share, amount as i64 + figure)
+    sum + i64::from(share) * (amount as i64 + figure)
 }
 
 // The sum for a year that the basis has, where all figures leave room for an amount: nothing has to saturate.
