@@ -8,6 +8,7 @@ ghost use Rattle.valuation.specs.Means.{mean, rounded_mean};
 use super::parts_of;
 use basis::Basis;
 use plan::Plan;
+use units::MOST_STATES;
 
 // A figure that leaves room for an amount in the range of lawful figures.
 const ROOMY: i64 = 4_990_000_000_000;
@@ -56,7 +57,8 @@ pub(super) fn exact_moves<B: Basis, P: Plan>(
         return None;
     }
     let mut sum = 0i64;
-    for to in 0..states {
+    // No more than eight turns, as the compiler sees.
+    for to in 0..states.min(MOST_STATES) {
         let share = basis.share(state, to, year);
         sum = add_move(sum, share, after[to], plan.move_benefit(state, to, year));
     }
