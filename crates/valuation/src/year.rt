@@ -26,7 +26,9 @@ impl<'a, V: Valuation, B: Basis, P: Plan> Year<'a, V, B, P> {
         ensures { result ≡ joined (V.operations self.now.sweep.now.valuation.now) (B.meaning self.now.sweep.now.basis.now) (P.payments self.now.sweep.now.plan.now) state self.now.year (λ j. figure (V.operations self.now.sweep.now.valuation.now) (B.meaning self.now.sweep.now.basis.now) (P.payments self.now.sweep.now.plan.now) self.now.sweep.now.premium.ticks j (self.now.year + 1)) }
     {
         let sweep = self.sweep;
-        sweep.valuation.join_moves(sweep.basis, sweep.plan, state, self.year, self.after)
+        sweep
+            .valuation
+            .join_moves(sweep.basis, sweep.plan, state, self.year, self.after)
     }
 
     // The join of what follows a state, discounted and as it is.

@@ -80,7 +80,10 @@ pub(super) fn nearest_moves<B: Basis, P: Plan>(
     let mut sum = 0i64;
     for to in 0..after.len() {
         let benefit = plan.move_benefit(state, to, year) as i64;
-        let part = parts_of(basis.share(state, to, year), after[to].saturating_add(benefit));
+        let part = parts_of(
+            basis.share(state, to, year),
+            after[to].saturating_add(benefit),
+        );
         sum = sum.saturating_add(part);
     }
     sum

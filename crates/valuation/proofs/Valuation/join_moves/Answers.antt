@@ -9,14 +9,15 @@ loop-to-preserved g c =
     let inside : c.loop-to.to < length c.loop-to.following = omega (arith, c.loop-to-test.true, c.loop-to.auto.following) in
     let v = g.Self.Valuation.operations c.args.self.now in
     let follows = λ (j : ℕ). v.add (get_or c.args.after.now j (v.make (pos 0))) (pos ((g.P.Plan.payments c.args.plan.now).move_benefit c.args.state j c.args.year)) in
-    let this : c.add.result ≡ follows c.loop-to.to =
-    c.add.ensures
-    ∙ ap₂ v.add
-    (c.index-after-to.is ∙ get_or_default c.args.after.now c.loop-to.to _ (v.make (pos 0)) (grind (arith, inside, c.loop-to.invariant.1, c.min-states.ensures)))
-    (search rules) in
-    ( take_more_set c.loop-to.following c.loop-to.to c.add.result inside ∙ ap₂ (λ xs x. xs ++ x ∷ []) c.loop-to.invariant.0 this ∙ sym (map-range_with_len_more follows 0 c.loop-to.to c.loop-to.to (omega arith)),
+    let d = v.make (pos 0) in
+    let short : c.loop-to.to < length c.args.after.now = grind (arith, inside, c.loop-to.invariant.1, c.min-states.ensures) in
+    let read : c.index-after-to.result ≡ get_or c.args.after.now c.loop-to.to d = c.index-after-to.is ∙ get_or_default c.args.after.now c.loop-to.to _ d short in
+    let paid : c.move_benefit-benefit.result ≡ (g.P.Plan.payments c.args.plan.now).move_benefit c.args.state c.loop-to.to c.args.year = search rules in
+    let this : c.add.result ≡ follows c.loop-to.to = search rules in (
+      take_more_set c.loop-to.following c.loop-to.to c.add.result inside ∙ ap₂ (λ xs x. xs ++ x ∷ []) c.loop-to.invariant.0 this ∙ sym (map-range_with_len_more follows 0 c.loop-to.to c.loop-to.to (omega arith)),
       search rules,
-      omega (arith, inside, c.loop-to.invariant.1) )
+      omega (arith, inside, c.loop-to.invariant.1),
+    )
 
 pub returns : goal.returns
 returns g c long =

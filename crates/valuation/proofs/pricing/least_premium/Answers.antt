@@ -20,7 +20,7 @@ loop-left-preserved g c =
           let ticks : w.in-Some.premium.ticks ≡ middle = omega (arith, ints, w.in-Some.ensures, inv.1, some) in
           let low : w.reserve.result ≤ℤ bound = rw (w.reserve.ensures.value, ticks) s in
           let high = not_at_most (to_z w64 (of_z w64 w.reserve.result)) bound w.if-reserve-bound.false in
-        omega (arith, ints, low, high))
+          omega (arith, ints, low, high))
       | in_default-via-in_default w ↦ (λ s. let h = w.in_default in search rules)
     ] in
     (omega (arith, some), inv.1, half.1, none_up_to (g.B.Basis.meaning c.args.basis.now) (g.P.Plan.payments c.args.plan.now) c.args.state c.args.year bound middle not, inv.4)

@@ -11,7 +11,8 @@ add_move-sum-requires-clause-share g c =
     let range = g.met.P.Plan.bounded c.args.plan.now in
     let early : c.args.year < (g.B.Basis.meaning c.args.basis.now).years = grind (arith, c.if-year-years.false, c.years.ensures) in
     let inside : c.loop-to.to < (g.B.Basis.meaning c.args.basis.now).states = grind (arith, c.loop-to-test.true, c.states-states.ensures, c.min-to-end.ensures, law.most_states) in
-    rw c.share-share.ensures (share_most _ law _ range c.args.state c.args.year early c.loop-to.to inside)
+    let share : c.share-share.result ≡ (g.B.Basis.meaning c.args.basis.now).share c.args.state c.loop-to.to c.args.year = search rules in
+    rw share (share_most _ law _ range c.args.state c.args.year early c.loop-to.to inside)
 
 pub add_move-sum-requires-clause-room : goal.add_move-sum-requires-clause-room
 add_move-sum-requires-clause-room g c =
@@ -37,9 +38,10 @@ loop-to-preserved g c =
     let next : ℕ → ℤ = λ j. get_or c.args.after.now j (pos 0) in
     let read : to_z w64 (of_z w64 (next c.loop-to.to)) ≡ next c.loop-to.to = search rules in
     let kept : to_z w64 (of_z w64 c.add_move-sum.result) ≡ c.add_move-sum.result = search rules in
-    let total = one_more (g.B.Basis.meaning c.args.basis.now) (g.P.Plan.payments c.args.plan.now) c.args.state c.args.year next c.loop-to.to in
-    ( kept ∙ c.add_move-sum.ensures ∙ rw (read, c.loop-to.invariant.0, c.share-share.ensures, c.move_benefit.ensures) (sym total),
-      omega (arith, inside) )
+    let total = one_more (g.B.Basis.meaning c.args.basis.now) (g.P.Plan.payments c.args.plan.now) c.args.state c.args.year next c.loop-to.to in (
+      kept ∙ c.add_move-sum.ensures ∙ rw (read, c.loop-to.invariant.0, c.share-share.ensures, c.move_benefit.ensures) (sym total),
+      omega (arith, inside),
+    )
 
 pub returns : goal.returns
 returns g c =
