@@ -1,12 +1,12 @@
 -- Laws of the smallest and the largest of some whole numbers. Assumes nothing.
-use Rattle.std.proofs.Common.{ℕ, List, [], ◌∷◌, ℤ, ◌≤ℤ◌, arith}
+use Rattle.std.proofs.Common.{◌≡◌, ℕ, suc, ◌⊎◌, inl, inr, List, [], ◌∷◌, ℤ, ◌≤ℤ◌, refl, sym, arith}
 use borrow.Author.Differences.{ints}
 use Rattle.std.specs.Int.{int_min, int_max}
-use Rattle.std.specs.List.{AllByRecursion, fold}
-use Rattle.std.proofs.lemmas.Int.{clamps}
+use Rattle.std.specs.List.{AllByRecursion, Contains, fold}
+use Rattle.std.proofs.lemmas.Int.{clamps, fold-int_min_reached, fold-int_max_reached}
 use Rattle.units.specs.Near.{Within}
 use Rattle.units.proofs.Distances.{within_pos}
-use Rattle.valuation.specs.Extremes.{smallest, largest}
+use Rattle.valuation.specs.Extremes.{smallest, largest, AreExtremes}
 
 -- ---- one of them: no range is left
 
@@ -53,3 +53,17 @@ largest_each (x ∷ xs) =
     let first : (a b : ℤ) → a ≤ℤ int_max a b = λ a b. omega (arith, ints, clamps) in
     let second : (a b : ℤ) → b ≤ℤ int_max a b = λ a b. omega (arith, ints, clamps) in
     (fold_first int_max above trans same first second x xs, fold_each int_max above trans same first second x xs)
+
+-- ---- one of them
+
+contains_from : (x : ℤ) (xs : List ℤ) (r : ℤ) → (r ≡ x) ⊎ Contains xs r → Contains (x ∷ xs) r
+contains_from x xs r (inl first) = (0, omega arith, sym first)
+contains_from x xs r (inr later) = (suc later.0, omega (arith, later.1), later.2)
+
+pub extremes : AreExtremes smallest largest
+extremes = record {
+  smallest_is_one = λ x xs. contains_from x xs (smallest (x ∷ xs)) (fold-int_min_reached x xs (smallest (x ∷ xs)) refl);
+  none_is_smaller = smallest_each;
+  largest_is_one = λ x xs. contains_from x xs (largest (x ∷ xs)) (fold-int_max_reached x xs (largest (x ∷ xs)) refl);
+  none_is_larger = largest_each;
+}

@@ -20,7 +20,7 @@ mod tests;
 mod year;
 
 use basis::Basis;
-use moves::fill_row;
+use moves::fill_shares;
 use plan::Plan;
 use units::MOST_STATES;
 
@@ -61,7 +61,7 @@ pub trait Valuation {
         let mut follows = [self.make(0); MOST_STATES];
         let row = &mut shares[..states];
         let following = &mut follows[..states];
-        fill_row(basis, state, year, row);
+        fill_shares(basis, state, year, row);
         for (to, place) in following.iter_mut().enumerate() {
             let benefit = plan.move_benefit(state, to, year) as i64;
             *place = self.add(after[to], benefit);
@@ -74,5 +74,6 @@ pub trait Valuation {
 
     ghost ordered: { (s : Self) → Ordered order (operations s) };
 
+    // As many figures as a basis can have states fit in memory.
     ghost fits: { 8 * type_size Self.Figure.row < 2 ^ 63 };
 }

@@ -23,8 +23,8 @@ fn is_roomy(figure: i64) -> bool
 fn all_roomy(after: &[i64]) -> bool
     ensures { IsTrue result → (j : ℕ) → Within 4990000000000 (get_or after.now j (pos 0)) }
 {
-    for place in 0..after.len() {
-        if !is_roomy(after[place]) {
+    for figure in after {
+        if !is_roomy(*figure) {
             return false;
         }
     }
@@ -78,12 +78,9 @@ pub(super) fn nearest_moves<B: Basis, P: Plan>(
     ensures { length after.now ≡ (B.meaning basis.now).states → rounded_mean result ≡ joined mean (B.meaning basis.now) (P.payments plan.now) state year (λ j. get_or after.now j (pos 0)) }
 {
     let mut sum = 0i64;
-    for to in 0..after.len() {
+    for (to, figure) in after.iter().enumerate() {
         let benefit = plan.move_benefit(state, to, year) as i64;
-        let part = parts_of(
-            basis.share(state, to, year),
-            after[to].saturating_add(benefit),
-        );
+        let part = parts_of(basis.share(state, to, year), figure.saturating_add(benefit));
         sum = sum.saturating_add(part);
     }
     sum

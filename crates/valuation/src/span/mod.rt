@@ -1,6 +1,7 @@
 // The span of any basis and plan.
 ghost use Rattle.std.specs.Prelude.{◌≡◌};
 ghost use Rattle.valuation.specs.Comparisons.{NowhereValuedLower, NeverRaisedByPremium};
+ghost use Rattle.valuation.specs.Extremes.{smallest, largest, AreExtremes};
 ghost use Rattle.valuation.specs.SpanOperations.{EndByEnd, LawfulEnds};
 ghost use Rattle.valuation.specs.Spans.{ends, Encloses};
 
@@ -23,6 +24,7 @@ pub fn span<B: Basis, P: Plan>(
     year: usize,
 ) -> Ends
     ensures value { result ≡ ends (B.meaning basis.now) (P.payments plan.now) premium.ticks state year }
+    ensures laws { AreExtremes smallest largest }
     ensures range { LawfulEnds result }
     ensures encloses { Encloses (B.meaning basis.now) (P.payments plan.now) premium.ticks state year result }
     ensures nowhere_valued_lower { NowhereValuedLower EndByEnd (B.meaning basis.now) (ends (B.meaning basis.now)) }

@@ -51,7 +51,7 @@ impl Valuation for Span {
                 };
             }
         }
-        hull.unwrap_or(Span.make(0))
+        hull.unwrap_or(self.make(0))
     }
 
     fn discount(&self, factor: u32, figure: Ends) -> Ends

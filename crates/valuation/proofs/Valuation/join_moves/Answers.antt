@@ -29,5 +29,5 @@ returns g c long =
     let follows = λ (j : ℕ). v.add (get_or c.args.after.now j (v.make (pos 0))) (pos ((g.P.Plan.payments c.args.plan.now).move_benefit c.args.state j c.args.year)) in
     let following : c.loop-to.following ≡ map follows (range_with_len 0 (g.B.Basis.meaning c.args.basis.now).states) =
     sym (take_all c.loop-to.to c.loop-to.following (omega (arith, done, c.loop-to.invariant.1))) ∙ c.loop-to.invariant.0 ∙ ap (λ n. map follows (range_with_len 0 n)) (done ∙ whole) in
-    let row : c.fill_row.new.row ≡ map (λ j. (g.B.Basis.meaning c.args.basis.now).share c.args.state j c.args.year) (range_with_len 0 (g.B.Basis.meaning c.args.basis.now).states) = c.fill_row.ensures ∙ ap (λ n. map (λ j. (g.B.Basis.meaning c.args.basis.now).share c.args.state j c.args.year) (range_with_len 0 n)) (length-take-le c.min-states.result _ (omega (arith, whole, most)) ∙ whole) in
+    let row : c.fill_shares.new.shares ≡ map (λ j. (g.B.Basis.meaning c.args.basis.now).share c.args.state j c.args.year) (range_with_len 0 (g.B.Basis.meaning c.args.basis.now).states) = c.fill_shares.ensures ∙ ap (λ n. map (λ j. (g.B.Basis.meaning c.args.basis.now).share c.args.state j c.args.year) (range_with_len 0 n)) (length-take-le c.min-states.result _ (omega (arith, whole, most)) ∙ whole) in
     c.join.ensures ∙ ap₂ (λ ps xs. v.join c.args.state ps xs) row following

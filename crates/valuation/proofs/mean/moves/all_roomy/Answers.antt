@@ -6,16 +6,16 @@ use Rattle.units.proofs.Distances.{within_pos}
 use Rattle.valuation.proofs.Steps.{one_roomy_more}
 use Rattle.valuation.proofs.mean.moves.all_roomy.Goals as goal
 
-pub loop-place-preserved : goal.loop-place-preserved
-loop-place-preserved c =
+pub loop-figure-preserved : goal.loop-figure-preserved
+loop-figure-preserved c =
     let next : ℕ → ℤ = λ j. get_or c.args.after.now j (pos 0) in
-    let read : to_z w64 (of_z w64 (next c.loop-place.place)) ≡ next c.loop-place.place = search rules in
-    let given : Within 4990000000000 (to_z w64 (of_z w64 (next c.loop-place.place))) = search rules in
-    one_roomy_more 4990000000000 c.loop-place.place next c.loop-place.invariant (rw read at given)
+    let read : to_z w64 (of_z w64 (next c.loop-figure.figure-index)) ≡ next c.loop-figure.figure-index = search rules in
+    let given : Within 4990000000000 (to_z w64 (of_z w64 (next c.loop-figure.figure-index))) = search rules in
+    one_roomy_more 4990000000000 c.loop-figure.figure-index next c.loop-figure.invariant (rw read at given)
 
 pub returns : goal.returns
 returns c is j =
     ⊎_elim
-    (λ outside. let past = get_or-eq_default c.args.after.now (pos 0) {n = j} (omega (arith, outside, c.loop-place-test.false)) in rw past (within_pos 4990000000000 0 (omega arith)))
-    (λ inside. c.loop-place.invariant j (omega (arith, inside)))
-    (leb_tells c.loop-place.place j)
+    (λ outside. let past = get_or-eq_default c.args.after.now (pos 0) {n = j} (omega (arith, outside, c.loop-figure-test.false)) in rw past (within_pos 4990000000000 0 (omega arith)))
+    (λ inside. c.loop-figure.invariant j (omega (arith, inside)))
+    (leb_tells c.loop-figure.figure-index j)
