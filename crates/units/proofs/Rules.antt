@@ -3,10 +3,17 @@ use Rattle.std.proofs.Common.{◌≡◌, ℕ, codes, arith}
 use Rattle.std.proofs.lemmas.Bool.Decides.{nat_tests}
 use Rattle.units.specs.Rules.{rule_number, rule_text}
 use Rattle.units.specs.declared.rule.Rule.{Rule}
-use Rattle.units.specs.declared.rule.Rule.TheVariants.{Size, Factor, Share, Payment, Premium, Course}
+use Rattle.units.specs.declared.rule.Rule.TheVariants.{LineFeed, Form, Number, Range, Room, Order, Row, Size, Factor, Share, Payment, Premium, Course}
 
 pub words_of_no_rule : (number : ℕ) → ((rule : Rule) → rule_number rule ≡ number → ⊥) → rule_text number ≡ codes "a rule is broken"
 words_of_no_rule number none =
+    let line_feed = none LineFeed in
+    let form = none Form in
+    let digits = none Number in
+    let range = none Range in
+    let room = none Room in
+    let order = none Order in
+    let row = none Row in
     let size = none Size in
     let factor = none Factor in
     let share = none Share in

@@ -1,12 +1,19 @@
 -- The rules by their numbers: which part of the engine checks each, and its words. Assumes nothing.
 use Rattle.std.specs.Prelude.{◌≡◌, ℕ, cond, List, codes, ◌==◌, Result, MatchResult}
 use Rattle.units.specs.declared.fault.Layer.{Layer}
-use Rattle.units.specs.declared.fault.Layer.TheVariants.{Basis, Plan, Contract}
+use Rattle.units.specs.declared.fault.Layer.TheVariants.{Field, Sheet, Basis, Plan, Contract}
 use Rattle.units.specs.declared.rule.Rule.{Rule}
-use Rattle.units.specs.declared.rule.Rule.TheVariants.{Size, Factor, Share, Payment, Premium, Course}
+use Rattle.units.specs.declared.rule.Rule.TheVariants.{LineFeed, Form, Number, Range, Room, Order, Row, Size, Factor, Share, Payment, Premium, Course}
 use Rattle.units.specs.declared.rule.UnknownRule.{UnknownRule}
 
 abbrev pub rule_number : Rule → ℕ
+rule_number LineFeed = 2
+rule_number Form = 3
+rule_number Number = 4
+rule_number Range = 5
+rule_number Room = 6
+rule_number Order = 7
+rule_number Row = 8
 rule_number Size = 9
 rule_number Factor = 10
 rule_number Share = 11
@@ -16,6 +23,13 @@ rule_number Course = 22
 
 -- the part of the engine that checks a rule
 abbrev pub rule_layer : Rule → Layer
+rule_layer LineFeed = Sheet
+rule_layer Form = Sheet
+rule_layer Number = Field
+rule_layer Range = Field
+rule_layer Room = Sheet
+rule_layer Order = Sheet
+rule_layer Row = Sheet
 rule_layer Size = Basis
 rule_layer Factor = Basis
 rule_layer Share = Basis
@@ -26,13 +40,20 @@ rule_layer Course = Contract
 -- the rule that a number stands for
 abbrev pub rule_text : ℕ → List ℕ
 rule_text number =
-    cond (number == 9) (codes "the number of states or years or the length of a column is unfit")
+    cond (number == 2) (codes "a line has no line feed within 40 bytes")
+    (cond (number == 3) (codes "a letter may not stand here or the number of fields differs")
+    (cond (number == 4) (codes "a field is not 1 to 11 digits without leading nought")
+    (cond (number == 5) (codes "a number is outside its range")
+    (cond (number == 6) (codes "the columns are shorter than the sheet needs")
+    (cond (number == 7) (codes "a year or a pair of states is out of order")
+    (cond (number == 8) (codes "a row misses the million")
+    (cond (number == 9) (codes "the number of states or years or the length of a column is unfit")
     (cond (number == 10) (codes "a factor is outside 1 to a million")
     (cond (number == 11) (codes "a share is outside 0 to a million or a row misses the million")
     (cond (number == 12) (codes "a year, a state or the length of a column of a plan is unfit or an entry is out of range")
     (cond (number == 20) (codes "no premium from 0 to the limit will do")
     (cond (number == 22) (codes "the column for the course is too short")
-    (codes "a rule is broken"))))))
+    (codes "a rule is broken")))))))))))))
 
 -- the rule of a number, or that number back where it stands for no rule
 abbrev pub Decodes : ℕ → Result Rule UnknownRule → Type 0

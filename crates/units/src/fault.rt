@@ -1,6 +1,6 @@
 // A refusal: what is wrong, who found it, and where.
 ghost use Rattle.std.specs.Prelude.{◌≡◌};
-ghost use Rattle.units.specs.Faults.{entry_fault};
+ghost use Rattle.units.specs.Faults.{entry_fault, text_fault};
 ghost use Rattle.units.specs.Rules.{rule_number, rule_layer};
 
 use crate::rule::Rule;
@@ -36,6 +36,17 @@ impl Fault {
         ensures { result ≡ entry_fault (rule_number rule) (rule_layer rule) year state }
     {
         Fault::at_entry(rule.number(), rule.layer(), year, state)
+    }
+
+    // The breach of a rule at a byte of a line, found by the part of the engine that checks it.
+    pub fn in_text(rule: Rule, line: usize, offset: usize) -> Fault
+        ensures { result ≡ text_fault (rule_number rule) (rule_layer rule) line offset }
+    {
+        Fault {
+            number: rule.number(),
+            layer: rule.layer(),
+            place: Place::Text { line, offset },
+        }
     }
 
     // A fault of any number at a year and a state. It stays beside `breach`, since a rule would be narrower than a number.

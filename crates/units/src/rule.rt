@@ -1,4 +1,4 @@
-// The rules whose breach is told by a year and a state, each under the number that callers know it by.
+// The rules whose breach is told, each under the number that callers know it by.
 ghost use Rattle.std.specs.Prelude.{◌≡◌, Some, ◌++◌, codes, decimal};
 ghost use Rattle.units.specs.Rules.{rule_number, rule_layer, rule_text, Decodes};
 
@@ -8,6 +8,20 @@ use std::fmt;
 
 #[derive(Clone, Copy, PartialEq, Eq, Debug)]
 pub enum Rule {
+    // That a line ends in time.
+    LineFeed,
+    // The letter of a line, and how many fields it has.
+    Form,
+    // That a field is a number in decimal.
+    Number,
+    // That the number of a field lies in its range.
+    Range,
+    // That the columns are long enough for a sheet.
+    Room,
+    // That the years of a sheet, and the moves of a year, rise.
+    Order,
+    // That a row of a sheet makes the million.
+    Row,
     // The numbers of states and years, and the lengths of columns, of a basis.
     Size,
     Factor,
@@ -25,6 +39,13 @@ impl Rule {
         ensures { result ≡ rule_number self }
     {
         match self {
+            Rule::LineFeed => 2,
+            Rule::Form => 3,
+            Rule::Number => 4,
+            Rule::Range => 5,
+            Rule::Room => 6,
+            Rule::Order => 7,
+            Rule::Row => 8,
             Rule::Size => 9,
             Rule::Factor => 10,
             Rule::Share => 11,
@@ -39,6 +60,8 @@ impl Rule {
         ensures { result ≡ rule_layer self }
     {
         match self {
+            Rule::Number | Rule::Range => Layer::Field,
+            Rule::LineFeed | Rule::Form | Rule::Room | Rule::Order | Rule::Row => Layer::Sheet,
             Rule::Size | Rule::Factor | Rule::Share => Layer::Basis,
             Rule::Payment => Layer::Plan,
             Rule::Premium | Rule::Course => Layer::Contract,
@@ -50,6 +73,13 @@ impl Rule {
         ensures { result.now ≡ rule_text (rule_number self) }
     {
         match self {
+            Rule::LineFeed => "a line has no line feed within 40 bytes",
+            Rule::Form => "a letter may not stand here or the number of fields differs",
+            Rule::Number => "a field is not 1 to 11 digits without leading nought",
+            Rule::Range => "a number is outside its range",
+            Rule::Room => "the columns are shorter than the sheet needs",
+            Rule::Order => "a year or a pair of states is out of order",
+            Rule::Row => "a row misses the million",
             Rule::Size => "the number of states or years or the length of a column is unfit",
             Rule::Factor => "a factor is outside 1 to a million",
             Rule::Share => "a share is outside 0 to a million or a row misses the million",
@@ -72,6 +102,13 @@ impl TryFrom<u8> for Rule {
 
     fn try_from(number: u8) -> Result<Rule, UnknownRule> {
         match number {
+            2 => Ok(Rule::LineFeed),
+            3 => Ok(Rule::Form),
+            4 => Ok(Rule::Number),
+            5 => Ok(Rule::Range),
+            6 => Ok(Rule::Room),
+            7 => Ok(Rule::Order),
+            8 => Ok(Rule::Row),
             9 => Ok(Rule::Size),
             10 => Ok(Rule::Factor),
             11 => Ok(Rule::Share),

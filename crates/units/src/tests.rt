@@ -1,7 +1,7 @@
 // Figures at the edges of the rules.
 use crate::amount::{Amount, OutsideLimit};
 use crate::failure::Failure;
-use crate::fault::{Fault, Layer};
+use crate::fault::{Fault, Layer, Place};
 use crate::premium::Premium;
 use crate::rounding::nearest;
 use crate::rule::{Rule, UnknownRule};
@@ -49,6 +49,48 @@ fn amounts_lie_from_nought_to_the_limit(rt: HostRuntime) -> Result<(), Fail> {
 fn rules_go_by_their_numbers(rt: HostRuntime) -> Result<(), Fail> {
     let cases = [
         (
+            2,
+            Rule::LineFeed,
+            Layer::Sheet,
+            "a line has no line feed within 40 bytes",
+        ),
+        (
+            3,
+            Rule::Form,
+            Layer::Sheet,
+            "a letter may not stand here or the number of fields differs",
+        ),
+        (
+            4,
+            Rule::Number,
+            Layer::Field,
+            "a field is not 1 to 11 digits without leading nought",
+        ),
+        (
+            5,
+            Rule::Range,
+            Layer::Field,
+            "a number is outside its range",
+        ),
+        (
+            6,
+            Rule::Room,
+            Layer::Sheet,
+            "the columns are shorter than the sheet needs",
+        ),
+        (
+            7,
+            Rule::Order,
+            Layer::Sheet,
+            "a year or a pair of states is out of order",
+        ),
+        (
+            8,
+            Rule::Row,
+            Layer::Sheet,
+            "a row misses the million",
+        ),
+        (
             9,
             Rule::Size,
             Layer::Basis,
@@ -89,12 +131,14 @@ fn rules_go_by_their_numbers(rt: HostRuntime) -> Result<(), Fail> {
         assert_eq!(rt; Rule::try_from(number), Ok(rule));
         let fault = Fault::at_entry(number, layer, 7, 3);
         assert_eq!(rt; Fault::breach(rule, 7, 3), fault);
+        let place = Place::Text { line: 7, offset: 3 };
+        assert_eq!(rt; Fault::in_text(rule, 7, 3), Fault { number, layer, place });
         let told = fault.to_string(rt.alloc())?;
         assert!(rt; told.as_str().ends_with(words));
         let shown = rule.to_string(rt.alloc())?;
         assert!(rt; shown.as_str() == words);
     }
-    assert_eq!(rt; Rule::try_from(8), Err(UnknownRule(8)));
+    assert_eq!(rt; Rule::try_from(1), Err(UnknownRule(1)));
     assert_eq!(rt; Rule::try_from(13), Err(UnknownRule(13)));
     assert_eq!(rt; Rule::try_from(21), Err(UnknownRule(21)));
     let unknown = UnknownRule(13).to_string(rt.alloc())?;
