@@ -4,4 +4,5 @@ pub mod Lines
 pub mod Numerals
 pub mod Reading
 pub mod Sheets
+pub mod SplitLines
 pub mod Texts
