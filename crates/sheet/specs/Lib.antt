@@ -1,5 +1,6 @@
 pub mod Checks
 pub mod Faults
+pub mod Fields
 pub mod Lines
 pub mod Numerals
 pub mod Reading

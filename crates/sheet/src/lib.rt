@@ -1,6 +1,7 @@
 // Sheets: a basis as text, read line by line.
 #![tactic(auto)]
 
-pub mod field;
 pub mod line;
+pub mod part;
+mod search;
 pub mod spot;

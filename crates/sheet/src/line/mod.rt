@@ -1,38 +1,40 @@
 // The lines of a sheet and of the commands after it.
-use crate::field::Field;
+use crate::part::Part;
+
+mod split;
 
 // A line by its letter, with its fields as they stand in the input.
 #[derive(Clone, Copy, PartialEq, Eq, Debug)]
 pub enum Line<'a> {
     Basis {
-        states: Field<'a>,
-        years: Field<'a>,
+        states: Part<'a>,
+        years: Part<'a>,
     },
     Year {
-        year: Field<'a>,
-        factor: Field<'a>,
+        year: Part<'a>,
+        factor: Part<'a>,
     },
     Move {
-        year: Field<'a>,
-        from: Field<'a>,
-        to: Field<'a>,
-        share: Field<'a>,
+        year: Part<'a>,
+        from: Part<'a>,
+        to: Part<'a>,
+        share: Part<'a>,
     },
     End,
     Issue {
-        sum: Field<'a>,
-        term: Field<'a>,
-        paying_years: Field<'a>,
-        deposit: Field<'a>,
+        sum: Part<'a>,
+        term: Part<'a>,
+        paying_years: Part<'a>,
+        deposit: Part<'a>,
     },
     Close {
-        state: Field<'a>,
-        rate: Field<'a>,
+        state: Part<'a>,
+        rate: Part<'a>,
     },
     Alter {
-        sum: Field<'a>,
-        term: Field<'a>,
-        paying_years: Field<'a>,
+        sum: Part<'a>,
+        term: Part<'a>,
+        paying_years: Part<'a>,
     },
     Leave,
 }

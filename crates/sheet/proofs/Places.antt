@@ -1,0 +1,29 @@
+-- Where the first element stands that passes a test. Assumes nothing.
+use Rattle.std.proofs.Common.{◌≡◌, ℕ, zero, suc, ◌+◌, ◌-◌, ◌<◌, ◌≤◌, Bool, true, false, not, cond, List, [], ◌∷◌, All, length, take, drop, Some, None, sym, ap, ◌∙◌, refl, arith, le_of_suc-le-suc, not-suc-le-zero}
+use Rattle.std.proofs.lemmas.Bool.Decides.{nat_tests}
+use Rattle.std.proofs.lemmas.List.{take_all, length-drop}
+use Rattle.std.proofs.lemmas.List.Splits.{slice_split_first, slice_split_none}
+use Rattle.std.specs.List.{position, position_or_len, slice_split}
+
+-- the place that is found, and what stands before it and after it
+pub found : {X : Type 0} (p : X → Bool) (xs : List X) (i : ℕ) → Some i ≡ position p xs → (i ≡ position_or_len p xs) × (i < length xs)
+found p xs i h = grind (arith, nat_tests)
+
+pub all_fail : {X : Type 0} (p : X → Bool) (xs : List X) → length xs ≤ position_or_len p xs → All (λ x. p x ≡ false) xs
+all_fail p [] h k d inside = absurd (not-suc-le-zero inside)
+all_fail p (x ∷ xs) h zero d inside = grind (arith, nat_tests)
+all_fail p (x ∷ xs) h (suc k) d inside = all_fail p xs (grind (arith, nat_tests)) k d (le_of_suc-le-suc inside)
+
+pub missing : {X : Type 0} (p : X → Bool) (xs : List X) → None ≡ position p xs → All (λ x. p x ≡ false) xs
+missing p xs h = all_fail p xs (grind (arith, nat_tests))
+
+-- the parts of a list, the first up to the place that is found
+pub split_found : {X : Type 0} (p : X → Bool) (xs : List X) (i : ℕ) (d : X) → Some i ≡ position p xs → slice_split p xs ≡ take i xs ∷ slice_split p (take (length xs - (i + 1)) (drop (i + 1) xs))
+split_found p xs i d h =
+    let at = found p xs i h in
+    let rest : take (length xs - (i + 1)) (drop (i + 1) xs) ≡ drop (i + 1) xs = take_all (length xs - (i + 1)) (drop (i + 1) xs) (omega (arith, length-drop (i + 1) xs)) in
+    let first = slice_split_first p xs d (omega (arith, at.0, at.1)) in
+    rw (rest, at.0) first
+
+pub split_missing : {X : Type 0} (p : X → Bool) (xs : List X) → None ≡ position p xs → slice_split p xs ≡ xs ∷ []
+split_missing p xs h = slice_split_none p xs (missing p xs h)

@@ -1,0 +1,18 @@
+-- Parts of the input, and fields that follow each other. Assumes nothing.
+use Rattle.std.specs.Prelude.{◌≡◌, ℕ, ◌+◌, ⊤, List, [], ◌∷◌, length, Option, Some, None}
+use Rattle.sheet.specs.Lines.{parts, further}
+use Rattle.sheet.specs.declared.part.Part.{Part}
+use Rattle.sheet.specs.declared.spot.Spot.{Spot}
+
+abbrev pub bytes_of : Part → List ℕ
+bytes_of part = part.bytes.now
+
+-- what stands between the semicolons of the rest of a line, if there is one
+abbrev pub parts_left : Option Part → List (List ℕ)
+parts_left None = []
+parts_left (Some rest) = parts (bytes_of rest)
+
+-- the fields follow each other from a spot on, with one semicolon between them
+abbrev pub StandFrom : Spot → List Part → Type 0
+StandFrom spot [] = ⊤
+StandFrom spot (field ∷ more) = (field.spot ≡ spot) × StandFrom (further spot (length (bytes_of field) + 1)) more

@@ -1,0 +1,65 @@
+// The numbers that parts write.
+ghost use Rattle.std.specs.Prelude.{◌≡◌, ◌≤◌, ℕ, ℤ, length, MatchResult, MatchOption, false, true};
+ghost use Rattle.std.specs.Str.{all_ascii_digits};
+ghost use Rattle.std.specs.Str.Parse.{AllDigits, digits_value};
+ghost use Rattle.units.specs.Faults.{text_fault};
+ghost use Rattle.units.specs.declared.fault.Layer.TheVariants.{Field};
+ghost use Rattle.sheet.specs.Numerals.{Writes, WritesSigned};
+
+use super::Part;
+use units::fault::Fault;
+use units::rule::Rule;
+
+// What digits come to.
+fn digits(bytes: &[u8]) -> Option<u64>
+    requires { length bytes.now ≤ 11 }
+    ensures { MatchOption result (AllDigits 10 bytes.now → ⊥) (λ n. AllDigits 10 bytes.now × (n ≡ digits_value 10 bytes.now)) }
+{
+    let mut value: u64 = 0;
+    for byte in bytes {
+        if !byte.is_ascii_digit() {
+            return None;
+        }
+        value = value * 10 + u64::from(*byte - b'0');
+    }
+    Some(value)
+}
+
+// The number of 1 to 11 digits without leading nought.
+fn unsigned(bytes: &[u8]) -> Option<u64>
+    ensures { MatchOption result ((n : ℕ) → Writes bytes.now n → ⊥) (λ n. Writes bytes.now n) }
+{
+    match bytes {
+        [] => None,
+        [b'0'] => Some(0),
+        [b'0', _, ..] => None,
+        _ if bytes.len() > 11 => None,
+        _ => digits(bytes),
+    }
+}
+
+impl Part<'_> {
+    // The number that the part writes.
+    pub fn number(self) -> Result<u64, Fault>
+        ensures { MatchResult result (λ n. Writes self.entry.bytes.now n) (λ fault. ((n : ℕ) → Writes self.entry.bytes.now n → ⊥) × (fault ≡ text_fault 4 Field self.entry.spot.line self.entry.spot.offset)) }
+    {
+        match unsigned(self.bytes) {
+            Some(value) => Ok(value),
+            None => Err(self.spot.fault(Rule::Number)),
+        }
+    }
+
+    // The number that the part writes, which may be below nought.
+    pub fn signed(self) -> Result<i64, Fault>
+        ensures { MatchResult result (λ z. WritesSigned self.entry.bytes.now z) (λ fault. ((z : ℤ) → WritesSigned self.entry.bytes.now z → ⊥) × (fault ≡ text_fault 4 Field self.entry.spot.line self.entry.spot.offset)) }
+    {
+        let value = match self.bytes {
+            [b'-', rest @ ..] => match unsigned(rest) {
+                Some(0) | None => None,
+                Some(value) => Some(-(value as i64)),
+            },
+            bytes => unsigned(bytes).map(|value| value as i64),
+        };
+        value.ok_or(self.spot.fault(Rule::Number))
+    }
+}
