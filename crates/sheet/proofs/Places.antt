@@ -1,8 +1,10 @@
 -- Where the first element stands that passes a test. Assumes nothing.
-use Rattle.std.proofs.Common.{◌≡◌, ℕ, zero, suc, ◌+◌, ◌-◌, ◌<◌, ◌≤◌, Bool, true, false, not, cond, List, [], ◌∷◌, All, length, take, drop, Some, None, sym, ap, ◌∙◌, refl, arith, le_of_suc-le-suc, not-suc-le-zero}
+use Rattle.std.proofs.Common.{◌≡◌, ℕ, zero, suc, ◌+◌, ◌-◌, ◌==◌, ◌<◌, ◌≤◌, Bool, true, false, not, cond, List, [], ◌∷◌, All, length, take, drop, Option, Some, None, is_none, sym, ap, ◌∙◌, refl, arith, le_of_suc-le-suc, not-suc-le-zero}
 use Rattle.std.proofs.lemmas.Bool.Decides.{nat_tests}
 use Rattle.std.proofs.lemmas.List.{take_all, length-drop}
-use Rattle.std.proofs.lemmas.List.Splits.{slice_split_first, slice_split_none}
+use Rattle.std.proofs.lemmas.List.Splits.{slice_split_first, slice_split_none, length-slice_split}
+use Rattle.sheet.specs.Fields.{parts_left}
+use Rattle.sheet.specs.declared.part.Part.{Part}
 use Rattle.std.specs.List.{position, position_or_len, slice_split}
 
 -- the place that is found, and what stands before it and after it
@@ -27,3 +29,10 @@ split_found p xs i d h =
 
 pub split_missing : {X : Type 0} (p : X → Bool) (xs : List X) → None ≡ position p xs → slice_split p xs ≡ xs ∷ []
 split_missing p xs h = slice_split_none p xs (missing p xs h)
+
+pub some_parts : (c : ℕ) (bytes : List ℕ) → 1 ≤ length (slice_split (λ x. x == c) bytes)
+some_parts c bytes = omega (arith, length-slice_split (λ x. x == c) bytes)
+
+pub none_left : (rest : Option Part) → length (parts_left rest) ≡ 0 → is_none rest ≡ true
+none_left None empty = refl
+none_left (Some rest) empty = let some = some_parts 59 rest.bytes.now in grind arith

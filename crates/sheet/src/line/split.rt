@@ -46,16 +46,22 @@ fn with_fields<'a>(byte: u8, rest: Option<Part<'a>>) -> Option<Line<'a>>
     }
 }
 
+// The line that a part of the input is, if it is one letter with as many fields as that has.
+fn line_of<'a>(whole: Part<'a>) -> Option<Line<'a>>
+    ensures { MatchOption result (has_form (parts (bytes_of whole.entry)) ≡ false) (λ line. IsLine whole.entry line) }
+{
+    let (head, rest) = whole.cut();
+    match head.bytes {
+        [byte] => with_fields(*byte, rest),
+        _ => None,
+    }
+}
+
 impl<'a> Line<'a> {
-    // The line that a part of the input is, if that is one letter with as many fields as it has.
+    // The line that a part of the input is, or the breach of the rule on letters and fields.
     pub fn split(whole: Part<'a>) -> Result<Line<'a>, Fault>
         ensures { MatchResult result (λ line. IsLine whole.entry line) (λ fault. (has_form (parts (bytes_of whole.entry)) ≡ false) × (fault ≡ text_fault 3 Sheet whole.entry.spot.line whole.entry.spot.offset)) }
     {
-        let (head, rest) = whole.cut();
-        let line = match head.bytes {
-            [byte] => with_fields(*byte, rest),
-            _ => None,
-        };
-        line.ok_or(whole.spot.fault(Rule::Form))
+        line_of(whole).ok_or(whole.spot.fault(Rule::Form))
     }
 }

@@ -38,28 +38,31 @@ fn unsigned(bytes: &[u8]) -> Option<u64>
     }
 }
 
+// The number of 1 to 11 digits without leading nought, which a minus may stand before if it is not nought.
+fn signed(bytes: &[u8]) -> Option<i64>
+    ensures { MatchOption result ((z : ℤ) → WritesSigned bytes.now z → ⊥) (λ z. WritesSigned bytes.now z) }
+{
+    match bytes {
+        [b'-', digits @ ..] => match unsigned(digits)? {
+            0 => None,
+            value => Some(-(value as i64)),
+        },
+        _ => Some(unsigned(bytes)? as i64),
+    }
+}
+
 impl Part<'_> {
     // The number that the part writes.
     pub fn number(self) -> Result<u64, Fault>
         ensures { MatchResult result (λ n. Writes self.entry.bytes.now n) (λ fault. ((n : ℕ) → Writes self.entry.bytes.now n → ⊥) × (fault ≡ text_fault 4 Field self.entry.spot.line self.entry.spot.offset)) }
     {
-        match unsigned(self.bytes) {
-            Some(value) => Ok(value),
-            None => Err(self.spot.fault(Rule::Number)),
-        }
+        unsigned(self.bytes).ok_or(self.spot.fault(Rule::Number))
     }
 
     // The number that the part writes, which may be below nought.
     pub fn signed(self) -> Result<i64, Fault>
         ensures { MatchResult result (λ z. WritesSigned self.entry.bytes.now z) (λ fault. ((z : ℤ) → WritesSigned self.entry.bytes.now z → ⊥) × (fault ≡ text_fault 4 Field self.entry.spot.line self.entry.spot.offset)) }
     {
-        let value = match self.bytes {
-            [b'-', rest @ ..] => match unsigned(rest) {
-                Some(0) | None => None,
-                Some(value) => Some(-(value as i64)),
-            },
-            bytes => unsigned(bytes).map(|value| value as i64),
-        };
-        value.ok_or(self.spot.fault(Rule::Number))
+        signed(self.bytes).ok_or(self.spot.fault(Rule::Number))
     }
 }
