@@ -7,7 +7,8 @@ use Rattle.units.specs.Ranges.{million}
 use Rattle.sheet.specs.Checks.{row_total}
 use Rattle.sheet.specs.Faults.{Begun, text_so_far}
 use Rattle.sheet.specs.Reading.{nothing_yet}
-use Rattle.sheet.specs.Sheets.{Sheet, Columns, LawfulBasis, Suffice, basis_of}
+use Rattle.sheet.specs.declared.columns.Columns.{Columns}
+use Rattle.sheet.specs.Sheets.{Sheet, LawfulBasis, Suffice, basis_of}
 use Rattle.sheet.specs.Texts.{line_text, years_text}
 use Rattle.sheet.proofs.Onward.{Readable, Agrees, at}
 use Rattle.sheet.proofs.YearWalks.{years_walk, place_start}

@@ -9,7 +9,8 @@ use Rattle.units.proofs.Sums.{sum_by_counting_same}
 use Rattle.basis.specs.TransitionColumns.{place}
 use Rattle.sheet.specs.Checks.{padded, row_total, full_rows}
 use Rattle.sheet.specs.Faults.{Begun}
-use Rattle.sheet.specs.Sheets.{Sheet, Columns, Suffice, LawfulBasis}
+use Rattle.sheet.specs.declared.columns.Columns.{Columns}
+use Rattle.sheet.specs.Sheets.{Sheet, Suffice, LawfulBasis}
 use Rattle.sheet.proofs.Joins.{all_from, place_in_year, place_lt_year, length_padded, get_or_padded, more_below, more_at, length_more}
 use Rattle.sheet.proofs.Rows.{each_between, between_each, at_most, lawful_of_rows}
 

@@ -5,8 +5,10 @@ use Rattle.std.proofs.lemmas.Grind.{same_number_lists}
 use Rattle.std.proofs.lemmas.List.{append_assoc, take_all, length-map}
 use Rattle.sheet.specs.Checks.{kind, padded, full_rows}
 use Rattle.sheet.specs.Faults.{text_so_far}
-use Rattle.sheet.specs.Reading.{Outcome, Reads, ends, nothing_yet, start}
-use Rattle.sheet.specs.Sheets.{Sheet, Columns, LawfulBasis, IsSheet, basis_of}
+use Rattle.sheet.specs.Lines.{start}
+use Rattle.sheet.specs.Reading.{Outcome, Reads, ends, nothing_yet}
+use Rattle.sheet.specs.declared.columns.Columns.{Columns}
+use Rattle.sheet.specs.Sheets.{Sheet, LawfulBasis, IsSheet, basis_of}
 use Rattle.sheet.specs.Texts.{line_text, years_text, text_of}
 use Rattle.sheet.specs.declared.spot.Spot.{Spot}
 use Rattle.sheet.proofs.Joins.{length_padded, get_or_padded}

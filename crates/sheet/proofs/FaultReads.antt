@@ -5,8 +5,10 @@ use Rattle.std.proofs.lemmas.Grind.{same_number_lists}
 use Rattle.std.proofs.lemmas.List.{get_or_past}
 use Rattle.units.specs.declared.fault.Fault.{Fault}
 use Rattle.sheet.specs.Faults.{Begun, SaysSoFar, Refuses, text_so_far, spot_past}
-use Rattle.sheet.specs.Reading.{Outcome, Reads, breaks, refused, nothing_yet, start}
-use Rattle.sheet.specs.Sheets.{Sheet, Columns}
+use Rattle.sheet.specs.Lines.{start}
+use Rattle.sheet.specs.Reading.{Outcome, Reads, breaks, refused, nothing_yet}
+use Rattle.sheet.specs.declared.columns.Columns.{Columns}
+use Rattle.sheet.specs.Sheets.{Sheet}
 use Rattle.sheet.proofs.Once.{one_outcome}
 use Rattle.sheet.proofs.Onward.{Agrees}
 use Rattle.sheet.proofs.Walks.{Walks, past, walk_none}

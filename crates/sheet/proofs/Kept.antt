@@ -11,10 +11,11 @@ use Rattle.std.proofs.lemmas.List.Sums.{sum_by-append, split_at_first, passes_at
 use Rattle.units.specs.declared.fault.Fault.{Fault}
 use Rattle.sheet.specs.Checks.{Check, Kind, Range, first_broken, number_checks, range_checks, kind_checks, made_by, part_checks, line_checks, kind, in_range, ends_in_time, ends_sheet}
 use Rattle.sheet.specs.Faults.{spot_past}
-use Rattle.sheet.specs.Lines.{further, is_line_feed, first_line, after_line, parts, letter_of}
+use Rattle.sheet.specs.Lines.{further, is_line_feed, first_line, after_line, parts, letter_of, spot_after}
 use Rattle.sheet.specs.Numerals.{is_number}
-use Rattle.sheet.specs.Reading.{with_line, spot_after}
-use Rattle.sheet.specs.Sheets.{Sheet, Columns}
+use Rattle.sheet.specs.Reading.{with_line}
+use Rattle.sheet.specs.declared.columns.Columns.{Columns}
+use Rattle.sheet.specs.Sheets.{Sheet}
 use Rattle.sheet.specs.Texts.{line_of, line_text}
 use Rattle.sheet.specs.declared.spot.Spot.{Spot}
 use Rattle.sheet.proofs.Numbers.{number_writes}

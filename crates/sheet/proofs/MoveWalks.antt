@@ -3,7 +3,8 @@ use Rattle.std.proofs.Common.{◌≡◌, ℕ, ◌+◌, ◌*◌, ◌<◌, ◌≤�
 use Rattle.std.proofs.lemmas.Bool.Decides.{nat_tests, eqb_tells}
 use Rattle.basis.specs.TransitionColumns.{place}
 use Rattle.sheet.specs.Checks.{kind, padded}
-use Rattle.sheet.specs.Sheets.{Sheet, Columns, basis_of}
+use Rattle.sheet.specs.declared.columns.Columns.{Columns}
+use Rattle.sheet.specs.Sheets.{Sheet, basis_of}
 use Rattle.sheet.specs.Texts.{move_text, row_text, moves_text}
 use Rattle.sheet.specs.declared.spot.Spot.{Spot}
 use Rattle.sheet.proofs.Unbroken.{Keeps}

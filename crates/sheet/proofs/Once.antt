@@ -1,6 +1,7 @@
 -- Reading comes to one outcome. Assumes nothing.
 use Rattle.std.proofs.Common.{◌≡◌, ℕ, List, refl, sym, ap, ◌∙◌, arith}
-use Rattle.sheet.specs.Sheets.{Sheet, Columns}
+use Rattle.sheet.specs.declared.columns.Columns.{Columns}
+use Rattle.sheet.specs.Sheets.{Sheet}
 use Rattle.sheet.specs.Reading.{Outcome, Reads, breaks, ends_here, goes_on, refused, ends}
 use Rattle.sheet.specs.declared.spot.Spot.{Spot}
 

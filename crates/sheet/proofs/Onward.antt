@@ -5,7 +5,8 @@ use Rattle.std.proofs.lemmas.Bool.{cases_lt}
 use Rattle.std.proofs.lemmas.List.{length-take-le, get_or_past}
 use Rattle.units.specs.Ranges.{million}
 use Rattle.sheet.specs.Checks.{padded, row_total}
-use Rattle.sheet.specs.Sheets.{Sheet, Columns, Suffice}
+use Rattle.sheet.specs.declared.columns.Columns.{Columns}
+use Rattle.sheet.specs.Sheets.{Sheet, Suffice}
 use Rattle.sheet.proofs.Joins.{length_more, more_below, more_at}
 use Rattle.sheet.proofs.Walks.{Walks, walk_none, walk_on}
 

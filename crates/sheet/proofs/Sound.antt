@@ -3,9 +3,10 @@ use Rattle.std.proofs.Common.{◌≡◌, ℕ, inl, inr, List, [], ◌∷◌, ◌
 use Rattle.units.specs.declared.fault.Fault.{Fault}
 use Rattle.sheet.specs.Checks.{first_broken, line_checks, ends_sheet}
 use Rattle.sheet.specs.Faults.{SaysSoFar, Refuses, spot_past}
-use Rattle.sheet.specs.Lines.{first_line, after_line, parts}
-use Rattle.sheet.specs.Reading.{Reads, breaks, ends_here, goes_on, Outcome, ends, refused, nothing_yet, start, with_line, spot_after}
-use Rattle.sheet.specs.Sheets.{Sheet, Columns, IsSheet}
+use Rattle.sheet.specs.Lines.{first_line, after_line, parts, start, spot_after}
+use Rattle.sheet.specs.Reading.{Reads, breaks, ends_here, goes_on, Outcome, ends, refused, nothing_yet, with_line}
+use Rattle.sheet.specs.declared.columns.Columns.{Columns}
+use Rattle.sheet.specs.Sheets.{Sheet, IsSheet}
 use Rattle.sheet.specs.Texts.{line_text}
 use Rattle.sheet.specs.declared.spot.Spot.{Spot}
 use Rattle.sheet.proofs.Kept.{kept_line, spot_grows}

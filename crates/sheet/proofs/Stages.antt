@@ -4,7 +4,8 @@ use Rattle.std.proofs.lemmas.Bool.Decides.{nat_tests, eqb_tells}
 use Rattle.basis.specs.TransitionColumns.{place}
 use Rattle.sheet.specs.Checks.{full_rows, kind, basis_line, year_line, move_line, end_line}
 use Rattle.sheet.specs.Faults.{SaysSoFar}
-use Rattle.sheet.specs.Sheets.{Sheet, Columns, Suffice, LawfulBasis, basis_of}
+use Rattle.sheet.specs.declared.columns.Columns.{Columns}
+use Rattle.sheet.specs.Sheets.{Sheet, Suffice, LawfulBasis, basis_of}
 use Rattle.sheet.specs.Texts.{line_text, text_of}
 use Rattle.sheet.specs.declared.spot.Spot.{Spot}
 use Rattle.sheet.proofs.Added.{basis_adds, year_adds, move_adds, end_adds}

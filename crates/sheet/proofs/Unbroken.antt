@@ -6,7 +6,8 @@ use Rattle.std.proofs.lemmas.List.{append_assoc}
 use Rattle.sheet.specs.Checks.{Check, Kind, Range, first_broken, number_checks, range_checks, kind_checks, line_checks, made_by, kind, in_range, ends_in_time}
 use Rattle.sheet.specs.Lines.{first_line, after_line, parts, further}
 use Rattle.sheet.specs.Reading.{with_line}
-use Rattle.sheet.specs.Sheets.{Sheet, Columns}
+use Rattle.sheet.specs.declared.columns.Columns.{Columns}
+use Rattle.sheet.specs.Sheets.{Sheet}
 use Rattle.sheet.specs.Texts.{line_of, line_text}
 use Rattle.sheet.specs.declared.spot.Spot.{Spot}
 use Rattle.sheet.proofs.LineParts.{Few, line_free, first_line_of, after_line_of, parts_of, values_of, line_in_time}

@@ -4,9 +4,10 @@ use Rattle.std.proofs.lemmas.List.{append_assoc, length-append}
 use Rattle.std.proofs.lemmas.List.Splits.{length-slice_split, slice_split_none}
 use Rattle.std.proofs.lemmas.List.Sums.{sum_by-append}
 use Rattle.sheet.specs.Checks.{kind, ends_sheet}
-use Rattle.sheet.specs.Lines.{is_line_feed, first_line, after_line, parts}
-use Rattle.sheet.specs.Reading.{Outcome, Reads, ends, ends_here, goes_on, with_line, spot_after}
-use Rattle.sheet.specs.Sheets.{Sheet, Columns}
+use Rattle.sheet.specs.Lines.{is_line_feed, first_line, after_line, parts, spot_after}
+use Rattle.sheet.specs.Reading.{Outcome, Reads, ends, ends_here, goes_on, with_line}
+use Rattle.sheet.specs.declared.columns.Columns.{Columns}
+use Rattle.sheet.specs.Sheets.{Sheet}
 use Rattle.sheet.specs.Texts.{line_of, line_text}
 use Rattle.sheet.specs.declared.spot.Spot.{Spot}
 use Rattle.sheet.proofs.LineParts.{Few, Free, line_free}

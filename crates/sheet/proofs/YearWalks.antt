@@ -6,7 +6,8 @@ use Rattle.units.specs.Ranges.{million}
 use Rattle.units.proofs.Sums.{sum_by_counting_same}
 use Rattle.basis.specs.TransitionColumns.{place}
 use Rattle.sheet.specs.Checks.{kind, row_total, full_rows, share_so_far}
-use Rattle.sheet.specs.Sheets.{Sheet, Columns, basis_of}
+use Rattle.sheet.specs.declared.columns.Columns.{Columns}
+use Rattle.sheet.specs.Sheets.{Sheet, basis_of}
 use Rattle.sheet.specs.Texts.{line_text, moves_text, year_text, years_text}
 use Rattle.sheet.specs.declared.spot.Spot.{Spot}
 use Rattle.sheet.proofs.Joins.{all_to, place_in_year}

@@ -10,7 +10,8 @@ use Rattle.units.specs.declared.fault.Layer.TheVariants.{Field, Sheet as Whole}
 use Rattle.basis.specs.TransitionColumns.{place}
 use Rattle.sheet.specs.Lines.{further, is_line_feed, first_line, parts, letter_of}
 use Rattle.sheet.specs.Numerals.{is_number}
-use Rattle.sheet.specs.Sheets.{Sheet, Columns}
+use Rattle.sheet.specs.declared.columns.Columns.{Columns}
+use Rattle.sheet.specs.Sheets.{Sheet}
 use Rattle.sheet.specs.declared.spot.Spot.{Spot}
 
 -- a rule that holds or not, and the fault that tells its breach

@@ -6,7 +6,8 @@ use Rattle.units.specs.declared.fault.Fault.{Fault}
 use Rattle.sheet.specs.Checks.{first_broken, line_checks, row_total}
 use Rattle.sheet.specs.Lines.{is_line_feed}
 use Rattle.sheet.specs.Reading.{nothing_yet}
-use Rattle.sheet.specs.Sheets.{Sheet, Columns, Suffice, basis_of}
+use Rattle.sheet.specs.declared.columns.Columns.{Columns}
+use Rattle.sheet.specs.Sheets.{Sheet, Suffice, basis_of}
 use Rattle.sheet.specs.Texts.{line_text, years_text}
 use Rattle.sheet.specs.declared.spot.Spot.{Spot}
 

@@ -3,12 +3,13 @@ use Rattle.std.specs.Prelude.{ℕ, ◌+◌, Bool, false, ◌&&◌, ◌||◌, Lis
 use Rattle.std.specs.List.{slice_split, before_first, after_first}
 use Rattle.sheet.specs.declared.spot.Spot.{Spot}
 
--- some bytes further on in the same line, and the start of the next line
+-- the first byte of all
+abbrev pub start : Spot
+start = record { line = 1; offset = 0 }
+
+-- some bytes further on in the same line
 abbrev pub further : Spot → ℕ → Spot
 further spot bytes = record { line = spot.line; offset = spot.offset + bytes }
-
-abbrev pub next_line : Spot → ℕ → Spot
-next_line spot bytes = record { line = spot.line + 1; offset = spot.offset + bytes }
 
 -- the bytes up to the first line feed, and those after it
 abbrev pub is_line_feed : ℕ → Bool
@@ -19,6 +20,10 @@ first_line bytes = before_first is_line_feed bytes
 
 abbrev pub after_line : List ℕ → List ℕ
 after_line bytes = after_first is_line_feed bytes
+
+-- the start of the line after the first one
+abbrev pub spot_after : Spot → List ℕ → Spot
+spot_after spot bytes = record { line = spot.line + 1; offset = spot.offset + (length (first_line bytes) + 1) }
 
 -- what stands between the semicolons
 abbrev pub parts : List ℕ → List (List ℕ)

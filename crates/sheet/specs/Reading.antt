@@ -2,17 +2,14 @@
 use Rattle.std.specs.Prelude.{◌≡◌, ℕ, ◌+◌, Bool, true, false, List, [], length, Some, None}
 use Rattle.units.specs.declared.fault.Fault.{Fault}
 use Rattle.sheet.specs.Checks.{first_broken, line_checks, made_by, ends_sheet}
-use Rattle.sheet.specs.Lines.{next_line, first_line, after_line, parts}
-use Rattle.sheet.specs.Sheets.{Sheet, Columns}
+use Rattle.sheet.specs.Lines.{first_line, after_line, spot_after, parts}
+use Rattle.sheet.specs.declared.columns.Columns.{Columns}
+use Rattle.sheet.specs.Sheets.{Sheet}
 use Rattle.sheet.specs.declared.spot.Spot.{Spot}
 
 -- before its first line, a sheet says nothing
 abbrev pub nothing_yet : Sheet
 nothing_yet = record { states = 0; years = 0; factors = []; shares = [] }
-
--- the first byte of all
-abbrev pub start : Spot
-start = record { line = 1; offset = 0 }
 
 pub data Outcome : Type 0 where
   ends : Sheet → List ℕ → Outcome
@@ -21,9 +18,6 @@ pub data Outcome : Type 0 where
 -- the sheet so far, with the first line of the bytes, and the spot and the bytes after that line
 abbrev pub with_line : Columns → Sheet → Spot → List ℕ → Sheet
 with_line columns s spot bytes = made_by columns s spot (parts (first_line bytes))
-
-abbrev pub spot_after : Spot → List ℕ → Spot
-spot_after spot bytes = next_line spot (length (first_line bytes) + 1)
 
 -- the bytes at a spot, read on from the sheet so far, come to an outcome
 pub data Reads (columns : Columns) : Sheet → Spot → List ℕ → Outcome → Type 0 where

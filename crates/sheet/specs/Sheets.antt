@@ -3,6 +3,7 @@ use Rattle.std.specs.Prelude.{◌≡◌, ℕ, ◌*◌, ◌≤◌, List, ◌++◌
 use Rattle.basis.specs.TransitionColumns.{Fit}
 use Rattle.basis.specs.TransitionTables.{tabled}
 use Rattle.basis.specs.Transitions.{Transitions}
+use Rattle.sheet.specs.declared.columns.Columns.{Columns}
 use Rattle.sheet.specs.Texts.{text_of}
 
 -- the numbers of states and years, a factor for each year, and the share of each move at its place
@@ -18,11 +19,6 @@ basis_of s = tabled s.states s.factors s.shares
 -- a table basis can take it in
 abbrev pub LawfulBasis : Sheet → Type 0
 LawfulBasis s = Fit s.states s.years (map pos s.factors) (map pos s.shares)
-
--- how many entries the columns have that a sheet is read into
-pub record Columns : Type 0 where
-  pub factors : ℕ
-  pub shares : ℕ
 
 -- the columns have an entry for each factor and each share of m states and n years
 pub record Suffice (columns : Columns) (m n : ℕ) : Type 0 where

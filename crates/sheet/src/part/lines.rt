@@ -1,0 +1,56 @@
+// The lines of the input.
+ghost use Rattle.std.specs.Prelude.{◌≡◌, false, true, IfOk, MatchResult};
+ghost use Rattle.units.specs.Faults.{text_fault};
+ghost use Rattle.units.specs.declared.fault.Layer.TheVariants.{Sheet};
+ghost use Rattle.sheet.specs.Checks.{ends_in_time};
+ghost use Rattle.sheet.specs.Fields.{bytes_of};
+ghost use Rattle.sheet.specs.Lines.{first_line, after_line, spot_after, start};
+
+use super::Part;
+use crate::search::first_place;
+use crate::spot::Spot;
+use units::fault::Fault;
+use units::rule::Rule;
+
+// The most bytes of a line, its line feed counted.
+const MOST_BYTES: usize = 40;
+
+impl<'a> Part<'a> {
+    // The whole input.
+    pub fn new(bytes: &'a [u8]) -> Part<'a>
+        ensures bytes { bytes_of result ≡ bytes.now }
+        ensures spot { result.spot ≡ start }
+    {
+        let spot = Spot { line: 1, offset: 0 };
+        Part { bytes, spot }
+    }
+
+    pub fn bytes(self) -> &'a [u8]
+        ensures { result.now ≡ bytes_of self.entry }
+    {
+        self.bytes
+    }
+
+    pub fn spot(self) -> Spot
+        ensures { result ≡ self.entry.spot }
+    {
+        self.spot
+    }
+
+    // The first line without its line feed, and what stands after that.
+    pub fn first_line(self) -> Result<(Part<'a>, Part<'a>), Fault>
+        ensures in_time { MatchResult result (λ _. ends_in_time (bytes_of self.entry) ≡ true) (λ fault. (ends_in_time (bytes_of self.entry) ≡ false) × (fault ≡ text_fault 2 Sheet self.entry.spot.line self.entry.spot.offset)) }
+        ensures line { IfOk result (λ parts. (bytes_of parts.0 ≡ first_line (bytes_of self.entry)) × (parts.0.spot ≡ self.entry.spot)) }
+        ensures rest { IfOk result (λ parts. (bytes_of parts.1 ≡ after_line (bytes_of self.entry)) × (parts.1.spot ≡ spot_after self.entry.spot (bytes_of self.entry))) }
+    {
+        let bytes = self.bytes;
+        let in_time = &bytes[..bytes.len().min(MOST_BYTES)];
+        let Some(end) = first_place(in_time, b'\n') else {
+            return Err(self.spot.fault(Rule::LineFeed));
+        };
+        let spot = Spot { line: self.spot.line + 1, offset: self.spot.offset + end + 1 };
+        let line = Part { bytes: &bytes[..end], spot: self.spot };
+        let rest = Part { bytes: &bytes[end + 1..], spot };
+        Ok((line, rest))
+    }
+}
