@@ -1,5 +1,5 @@
 -- A field is a number exactly if it is the decimal form of one below 10 ^ 11. Assumes nothing.
-use Rattle.std.proofs.Common.{◌≡◌, ℕ, zero, suc, ◌+◌, ◌-◌, ◌^◌, ◌<◌, ◌≤◌, List, [], ◌∷◌, length, get_or, take, true, false, sym, ap, ◌∙◌, arith, decimal, not-suc-le-zero, le_of_suc-le-suc, Option, Some, None, MatchOption}
+use Rattle.std.proofs.Common.{◌≡◌, ℕ, zero, suc, ◌+◌, ◌-◌, ◌^◌, ◌<◌, ◌≤◌, List, [], ◌∷◌, length, get_or, take, true, false, sym, ap, ◌∙◌, arith, decimal, not-suc-le-zero, le_of_suc-le-suc, Option, Some, None, MatchOption, Result, Ok, Err, MatchResult, is_err}
 use Rattle.std.proofs.lemmas.Bool.Decides.{nat_tests}
 use Rattle.std.proofs.lemmas.Fmt.{decimal-digits_value, digits_decimal, digits_value-decimal, length-decimal-le, first_decimal, decimal_digit, decimal_nonempty}
 use Rattle.std.proofs.lemmas.Str.Parse.{IsNumeralModel, numerals_by_value, tells_all_ascii_digits, digits_value_short}
@@ -99,3 +99,20 @@ digits_written bytes n digits some few lead e =
 pub digits_decide : (bytes : List ℕ) (read : Option ℕ) → 0 < length bytes → length bytes ≤ 11 → (get_or bytes 0 0 ≡ 48 → length bytes ≡ 1) → MatchOption read (AllDigits 10 bytes → ⊥) (λ n. AllDigits 10 bytes × (n ≡ digits_value 10 bytes)) → MatchOption read ((n : ℕ) → Writes bytes n → ⊥) (λ n. Writes bytes n)
 digits_decide bytes None some few lead h = λ n. no_digits_written bytes n h
 digits_decide bytes (Some n) some few lead h = digits_written bytes n h.0 some few lead h.1
+
+-- a number that is written passes the test, and where none is, the test fails
+pub written_passes : (bytes : List ℕ) (n : ℕ) → Writes bytes n → (is_number bytes ≡ true) × (n ≡ digits_value 10 bytes)
+written_passes bytes n w =
+    let m = w.most in
+    rw w.text (decimal_is_number n m, sym (value_of_decimal n m))
+
+pub unwritten_fails : (bytes : List ℕ) → ((n : ℕ) → Writes bytes n → ⊥) → is_number bytes ≡ false
+unwritten_fails bytes none =
+    let some : is_number bytes ≡ true → ⊥ = λ h. none (digits_value 10 bytes) (number_writes bytes h) in
+    grind arith
+
+pub written_decides : {E : Type 0} (bytes : List ℕ) (read : Option ℕ) (told : Result ℕ E) → MatchOption read ((n : ℕ) → Writes bytes n → ⊥) (λ n. Writes bytes n) → MatchOption read (is_err told ≡ true) (λ n. told ≡ Ok n) → MatchResult told (λ n. (is_number bytes ≡ true) × (n ≡ digits_value 10 bytes)) (λ _. is_number bytes ≡ false)
+written_decides bytes None (Ok n) h k = grind arith
+written_decides bytes None (Err e) h k = unwritten_fails bytes h
+written_decides bytes (Some n) (Ok m) h k = let e : m ≡ n = grind arith in rw e (written_passes bytes n h)
+written_decides bytes (Some n) (Err e) h k = grind arith

@@ -57,7 +57,7 @@ lawful_row xs m r inside range whole =
     }
 
 -- a row of a year ends within the shares
-row_ends : (m n i t : ℕ) → i < m → t < n → row_number m i t * m + m ≤ n * m * m
+pub row_ends : (m n i t : ℕ) → i < m → t < n → row_number m i t * m + m ≤ n * m * m
 row_ends m n i t h k =
     let below : row_number m i t < n * m = digits_lt k h in
     omega (arith, mul-le-mul_right m below, add-mul (row_number m i t) 1 m)

@@ -3,6 +3,7 @@ pub mod Faults
 pub mod Fields
 pub mod Lines
 pub mod Numerals
+pub mod Readers
 pub mod Reading
 pub mod Sheets
 pub mod SplitLines

@@ -4,5 +4,6 @@
 mod columns;
 pub mod line;
 pub mod part;
+mod reader;
 mod search;
 pub mod spot;

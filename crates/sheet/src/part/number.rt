@@ -4,7 +4,8 @@ ghost use Rattle.std.specs.Str.{all_ascii_digits};
 ghost use Rattle.std.specs.Str.Parse.{AllDigits, digits_value};
 ghost use Rattle.units.specs.Faults.{text_fault};
 ghost use Rattle.units.specs.declared.fault.Layer.TheVariants.{Field};
-ghost use Rattle.sheet.specs.Numerals.{Writes, WritesSigned};
+ghost use Rattle.sheet.specs.Checks.{range, in_range};
+ghost use Rattle.sheet.specs.Numerals.{is_number, Writes, WritesSigned};
 
 use super::Part;
 use units::fault::Fault;
@@ -54,7 +55,8 @@ fn signed(bytes: &[u8]) -> Option<i64>
 impl Part<'_> {
     // The number that the part writes.
     pub fn number(self) -> Result<u64, Fault>
-        ensures { MatchResult result (λ n. Writes self.entry.bytes.now n) (λ fault. ((n : ℕ) → Writes self.entry.bytes.now n → ⊥) × (fault ≡ text_fault 4 Field self.entry.spot.line self.entry.spot.offset)) }
+        ensures rule { MatchResult result (λ n. (is_number self.entry.bytes.now ≡ true) × (n ≡ digits_value 10 self.entry.bytes.now)) (λ _. is_number self.entry.bytes.now ≡ false) }
+        ensures value { MatchResult result (λ n. Writes self.entry.bytes.now n) (λ fault. ((n : ℕ) → Writes self.entry.bytes.now n → ⊥) × (fault ≡ text_fault 4 Field self.entry.spot.line self.entry.spot.offset)) }
     {
         unsigned(self.bytes).ok_or(self.spot.fault(Rule::Number))
     }
@@ -64,5 +66,17 @@ impl Part<'_> {
         ensures { MatchResult result (λ z. WritesSigned self.entry.bytes.now z) (λ fault. ((z : ℤ) → WritesSigned self.entry.bytes.now z → ⊥) × (fault ≡ text_fault 4 Field self.entry.spot.line self.entry.spot.offset)) }
     {
         signed(self.bytes).ok_or(self.spot.fault(Rule::Number))
+    }
+
+    // The number of a field, if it is from `low` to `high`.
+    pub fn within(self, number: u64, low: usize, high: usize) -> Result<usize, Fault>
+        ensures { MatchResult result (λ n. (n ≡ number) × (low ≤ n) × (n ≤ high)) (λ fault. (in_range (range low high) number ≡ false) × (fault ≡ text_fault 5 Field self.entry.spot.line self.entry.spot.offset)) }
+    {
+        let number = number as usize;
+        if low <= number && number <= high {
+            Ok(number)
+        } else {
+            Err(self.spot.fault(Rule::Range))
+        }
     }
 }
