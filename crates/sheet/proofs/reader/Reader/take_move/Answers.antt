@@ -1,0 +1,28 @@
+use Rattle.std.proofs.Common.{◌≡◌, ◌≤◌, ◌<◌, ◌+◌, ◌-◌, ◌*◌, ◌∷◌, [], ◌++◌, take, set, length, arith, rules}
+use Rattle.std.proofs.lemmas.Bool.Decides.{nat_tests}
+use Rattle.std.proofs.lemmas.List.{length-take-le}
+use Rattle.std.specs.Str.Parse.{digits_value}
+use Rattle.basis.specs.TransitionColumns.{place}
+use Rattle.sheet.proofs.Held.{put_held, places_fit}
+use Rattle.sheet.proofs.Joins.{place_in_year}
+use Rattle.sheet.specs.Checks.{padded}
+use Rattle.sheet.specs.Fields.{bytes_of}
+use Rattle.sheet.proofs.reader.Reader.take_move.Goals as goal
+
+pub returns : goal.returns
+returns c =
+    let r = c.args.self.now in
+    let t = c.in_ok-t-2.t in
+    let i = c.in_ok-i-2.i in
+    let j = c.in_ok-j-2.j in
+    let p = c.in_ok-p-2.p in
+    let fit = places_fit r.states r.years r.most_states r.most_years in
+    let come : length (take r.come r.factors) ≡ r.come = length-take-le r.come r.factors (grind arith) in
+    let next : length (take r.next r.shares) ≡ r.next = length-take-le r.next r.shares (grind arith) in
+    let year : t ≡ digits_value 10 (bytes_of c.args.year) = grind arith in
+    let from : i ≡ digits_value 10 (bytes_of c.args.from) = grind arith in
+    let to : j ≡ digits_value 10 (bytes_of c.args.to) = grind arith in
+    let share : p ≡ digits_value 10 (bytes_of c.args.share) = grind arith in
+    let inside : place r.states i j t < r.years * r.states * r.states = place_in_year r.states i j t r.years (grind arith) (grind arith) (grind arith) in
+    let shares : take (place r.states i j t + 1) (set r.shares (place r.states i j t) p) ≡ padded (take r.next r.shares) (place r.states i j t) ++ p ∷ [] = put_held r.shares r.next (place r.states i j t) p (grind arith) (grind arith) r.noughts in
+    (grind (arith, nat_tests), cc)
