@@ -5,6 +5,7 @@ pub mod Lines
 pub mod Numerals
 pub mod Readers
 pub mod Reading
+pub mod Readings
 pub mod Sheets
 pub mod SplitLines
 pub mod Texts

@@ -4,6 +4,8 @@
 mod columns;
 pub mod line;
 pub mod part;
+pub mod read;
 mod reader;
+pub mod reading;
 mod search;
 pub mod spot;

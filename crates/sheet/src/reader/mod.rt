@@ -2,6 +2,7 @@
 ghost use Rattle.std.specs.Prelude.{◌≡◌, ◌*◌, ◌≤◌, ℕ, slice_index};
 
 mod end;
+mod fill;
 mod lines;
 mod moves;
 mod new;
@@ -9,6 +10,7 @@ mod years;
 
 // The factors of the years that have come, and the shares before the place `next`. Memory is on the stack: a refused sheet leaves
 // the columns of the caller as they were.
+#[derive(Drop)]
 pub(crate) struct Reader {
     states: usize,
     years: usize,
