@@ -105,15 +105,15 @@ year_adds m years factors shares v short =
     let front = line_text 66 (m ∷ years ∷ []) in
     let count : length (factors ++ v ∷ []) ≡ suc n = length_push factors v ∙ add-one n in
     let old : years_text (plain m (factors ++ v ∷ []) shares) n ≡ years_text (basis_of s) n =
-        years_same m (length (factors ++ v ∷ [])) n (plain m (factors ++ v ∷ []) shares).factor (plain m factors shares).factor (plain m factors shares).share (plain m factors shares).share n (λ t l. get_or_append_left factors (v ∷ []) 0 t l) (λ i j t _ _ _. refl)
-        ∙ sym (plain_years s n (omega arith)) in
+    years_same m (length (factors ++ v ∷ [])) n (plain m (factors ++ v ∷ []) shares).factor (plain m factors shares).factor (plain m factors shares).share (plain m factors shares).share n (λ t l. get_or_append_left factors (v ∷ []) 0 t l) (λ i j t _ _ _. refl)
+    ∙ sym (plain_years s n (omega arith)) in
     let e : years_text (basis_of new) (length (factors ++ v ∷ [])) ≡ years_text (basis_of s) n ++ line =
-        plain_years new (length (factors ++ v ∷ [])) (omega arith)
-        ∙ ap (years_text (plain m (factors ++ v ∷ []) shares)) count
-        ∙ join_more (year_text (plain m (factors ++ v ∷ []) shares)) 0 n
-        ∙ ap (λ k. years_text (plain m (factors ++ v ∷ []) shares) n ++ year_text (plain m (factors ++ v ∷ []) shares) k) (omega arith)
-        ∙ ap (λ ys. ys ++ year_text (plain m (factors ++ v ∷ []) shares) n) old
-        ∙ ap (λ l. years_text (basis_of s) n ++ l) (year_new m factors shares v short) in
+    plain_years new (length (factors ++ v ∷ [])) (omega arith)
+    ∙ ap (years_text (plain m (factors ++ v ∷ []) shares)) count
+    ∙ join_more (year_text (plain m (factors ++ v ∷ []) shares)) 0 n
+    ∙ ap (λ k. years_text (plain m (factors ++ v ∷ []) shares) n ++ year_text (plain m (factors ++ v ∷ []) shares) k) (omega arith)
+    ∙ ap (λ ys. ys ++ year_text (plain m (factors ++ v ∷ []) shares) n) old
+    ∙ ap (λ l. years_text (basis_of s) n ++ l) (year_new m factors shares v short) in
     ap (λ ys. front ++ ys) e ∙ sym (append_assoc front (years_text (basis_of s) n) line)
 
 -- ---- the first and the last line
@@ -131,7 +131,7 @@ end_adds m years q factors shares full =
     let front = line_text 66 (m ∷ years ∷ []) in
     let last = line_text 69 [] in
     let e : years_text (basis_of new) n ≡ years_text (basis_of s) n =
-        plain_years new n (omega arith)
-        ∙ years_same m n n (plain m factors shares).factor (plain m factors shares).factor (plain m factors (padded shares q)).share (plain m factors shares).share n (λ t _. refl) (λ i j t _ _ _. get_or_padded shares q (place m i j t))
-        ∙ sym (plain_years s n (omega arith)) in
+    plain_years new n (omega arith)
+    ∙ years_same m n n (plain m factors shares).factor (plain m factors shares).factor (plain m factors (padded shares q)).share (plain m factors shares).share n (λ t _. refl) (λ i j t _ _ _. get_or_padded shares q (place m i j t))
+    ∙ sym (plain_years s n (omega arith)) in
     ap (λ k. line_text 66 (m ∷ k ∷ []) ++ (years_text (basis_of new) n ++ last)) full ∙ ap (λ ys. front ++ (ys ++ last)) e ∙ sym (append_assoc front (years_text (basis_of s) n) last)

@@ -74,5 +74,5 @@ arrives columns s readable =
       shares = on.shares;
       agrees = rw (place_start s.states (length s.factors)) at on.agrees;
       walks = subst (λ fs. Walks columns nothing_yet (text_so_far s) (record { states = s.states; years = s.years; factors = fs; shares = on.shares })) all
-        (walk_on columns nothing_yet (at s 0 []) (at s (length s.factors) on.shares) (line_text 66 (s.states ∷ s.years ∷ [])) (years_text (basis_of s) (length s.factors)) (begin_walk columns s readable) on.walks);
+          (walk_on columns nothing_yet (at s 0 []) (at s (length s.factors) on.shares) (line_text 66 (s.states ∷ s.years ∷ [])) (years_text (basis_of s) (length s.factors)) (begin_walk columns s readable) on.walks);
     }

@@ -62,8 +62,8 @@ year_begins columns s v begun room_left low high full =
       room = begun.room;
       years_come = omega arith;
       discount = each_between (s.factors ++ v ∷ []) 1 million (λ t h. elim (cases_lt t (length s.factors)) [
-        inl l ↦ rw (get_or_append_left s.factors (v ∷ []) 0 t l) (between_each s.factors 1 million begun.discount t l)
-      | inr l ↦ let e : length s.factors ≡ t = omega arith in rw (get_or_push s.factors v 0 t e) (low, high)
+        | inl l ↦ rw (get_or_append_left s.factors (v ∷ []) 0 t l) (between_each s.factors 1 million begun.discount t l)
+        | inr l ↦ let e : length s.factors ≡ t = omega arith in rw (get_or_push s.factors v 0 t e) (low, high)
       ]);
       range = begun.range;
       places = omega (arith, begun.places);
@@ -86,8 +86,8 @@ move_begins columns s t i j p begun last within inside low high short =
       years_come = begun.years_come;
       discount = begun.discount;
       range = each_between (padded s.shares q ++ p ∷ []) 0 million (λ k h. elim (cases_lt k q) [
-        inl l ↦ rw (more_below s.shares q p k short l) (omega arith, at_most s.shares million begun.range k)
-      | inr l ↦ let e : k ≡ place s.states i j t = omega arith in rw (e, more_at s.shares q p short) (omega arith, high)
+        | inl l ↦ rw (more_below s.shares q p k short l) (omega arith, at_most s.shares million begun.range k)
+        | inr l ↦ let e : k ≡ place s.states i j t = omega arith in rw (e, more_at s.shares q p short) (omega arith, high)
       ]);
       places = omega arith;
       last = λ k h. let e : k ≡ place s.states i j t = omega arith in rw (e, more_at s.shares q p short) low;

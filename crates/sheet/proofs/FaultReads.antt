@@ -18,13 +18,13 @@ use Rattle.sheet.proofs.Arrives.{readable_of_begun, arrives}
 no_longer : (xs ys : List ℕ) (q : ℕ) → length ys ≤ q → ((k : ℕ) → k < q → get_or xs k 0 ≡ get_or ys k 0) → ((k : ℕ) → length ys ≡ k + 1 → 1 ≤ get_or ys k 0) → length ys ≤ length xs
 no_longer xs ys q low same last =
     elim (cases_lt (length xs) (length ys)) [
-      inl l ↦
-        let k : ℕ = length ys - 1 in
-        let top : 1 ≤ get_or ys k 0 = last k (omega arith) in
-        let none : get_or xs k 0 ≡ 0 = get_or_past xs k 0 (omega arith) in
-        let e : get_or xs k 0 ≡ get_or ys k 0 = same k (omega arith) in
-        omega arith
-    | inr l ↦ l
+      | inl l ↦
+          let k : ℕ = length ys - 1 in
+          let top : 1 ≤ get_or ys k 0 = last k (omega arith) in
+          let none : get_or xs k 0 ≡ 0 = get_or_past xs k 0 (omega arith) in
+          let e : get_or xs k 0 ≡ get_or ys k 0 = same k (omega arith) in
+          omega arith
+      | inr l ↦ l
     ]
 
 so_far_shares : (columns : Columns) (s : Sheet) (xs : List ℕ) → Begun columns s → Agrees s (length s.factors * s.states * s.states) xs → xs ≡ s.shares

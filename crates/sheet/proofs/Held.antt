@@ -32,8 +32,8 @@ pub one_fails : (p : ℕ → Bool) (a n i : ℕ) → a ≤ i → i < a + n → p
 one_fails p a zero i low high h = absurd (omega arith)
 one_fails p a (suc n) i low high h =
     elim (cases_lt a i) [
-      inl l ↦ let more = one_fails p (a + 1) n i (omega arith) (omega arith) h in grind (arith, nat_tests)
-    | inr l ↦ let e : i ≡ a = omega arith in let here : p a ≡ false = rw e at h in grind (arith, nat_tests)
+      | inl l ↦ let more = one_fails p (a + 1) n i (omega arith) (omega arith) h in grind (arith, nat_tests)
+      | inr l ↦ let e : i ≡ a = omega arith in let here : p a ≡ false = rw e at h in grind (arith, nat_tests)
     ]
 
 -- the rows of the last year

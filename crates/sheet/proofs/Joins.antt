@@ -27,14 +27,14 @@ pub join_last : {A : Type 0} (f g : ℕ → List A) (x : List A) (q a n : ℕ) �
 join_last f g x q a zero low high same here fn gn = absurd (omega arith)
 join_last f g x q a (suc n) low high same here fn gn =
     elim (cases_lt a q) [
-      inl l ↦
-        rw (same a l, join_last f g x q (a + 1) n (omega arith) (omega arith) same here (λ k u v. fn k u (omega arith)) (λ k u v. gn k u (omega arith))) (sym (append_assoc (g a) _ x))
-    | inr l ↦
-        let e : q ≡ a = omega arith in
-        let at_a : g a ≡ f a ++ x = rw e at here in
-        let nf : flat_map f (range_with_len (a + 1) n) ≡ [] = join_none f (a + 1) n (λ k l u. fn k (omega arith) (omega arith)) in
-        let ng : flat_map g (range_with_len (a + 1) n) ≡ [] = join_none g (a + 1) n (λ k l u. gn k (omega arith) (omega arith)) in
-        rw (nf, ng, at_a, append-nil (f a)) (append-nil (f a ++ x))
+      | inl l ↦
+          rw (same a l, join_last f g x q (a + 1) n (omega arith) (omega arith) same here (λ k u v. fn k u (omega arith)) (λ k u v. gn k u (omega arith))) (sym (append_assoc (g a) _ x))
+      | inr l ↦
+          let e : q ≡ a = omega arith in
+          let at_a : g a ≡ f a ++ x = rw e at here in
+          let nf : flat_map f (range_with_len (a + 1) n) ≡ [] = join_none f (a + 1) n (λ k l u. fn k (omega arith) (omega arith)) in
+          let ng : flat_map g (range_with_len (a + 1) n) ≡ [] = join_none g (a + 1) n (λ k l u. gn k (omega arith) (omega arith)) in
+          rw (nf, ng, at_a, append-nil (f a)) (append-nil (f a ++ x))
     ]
 
 -- ---- tests over a count
@@ -83,8 +83,8 @@ noughts n i = elim (cases_lt i n) [ inl l ↦ get_or-replicate n i 0 0 l | inr l
 pub get_or_padded : (xs : List ℕ) (q k : ℕ) → get_or (padded xs q) k 0 ≡ get_or xs k 0
 get_or_padded xs q k =
     elim (cases_lt k (length xs)) [
-      inl l ↦ get_or_append_left xs _ 0 k l
-    | inr l ↦ get_or-append_right xs _ (length xs) k 0 refl l ∙ (noughts (q - length xs) (k - length xs) ∙ sym (get_or_past xs k 0 l))
+      | inl l ↦ get_or_append_left xs _ 0 k l
+      | inr l ↦ get_or-append_right xs _ (length xs) k 0 refl l ∙ (noughts (q - length xs) (k - length xs) ∙ sym (get_or_past xs k 0 l))
     ]
 
 -- one share more, at q

@@ -47,9 +47,9 @@ ranges_are spot (f ∷ fs) [] count h = absurd (omega arith)
 ranges_are spot (f ∷ fs) (r ∷ rs) count h =
     let p = first_none _ _ (first_broken (range_checks (further spot (length f + 1)) fs rs)) h in
     (inside r (digits_value 10 f) p.0, ranges_are (further spot (length f + 1)) fs rs (omega arith) p.1)
-    where
-      inside : (r : Range) (n : ℕ) → in_range r n ≡ true → (r.low ≤ n) × (n ≤ r.high)
-      inside r n h = (grind (arith, nat_tests), grind (arith, nat_tests))
+  where
+    inside : (r : Range) (n : ℕ) → in_range r n ≡ true → (r.low ≤ n) × (n ≤ r.high)
+    inside r n h = (grind (arith, nat_tests), grind (arith, nat_tests))
 
 -- ---- the parts of a line
 
@@ -77,11 +77,12 @@ kind_of_none spot fs k h =
     let stands : k.may_stand ≡ true = and_first k.may_stand _ a.0 in
     let count : length fs ≡ length k.ranges = eqb-true _ _ (and_second k.may_stand _ a.0) in
     (record { stands = stands; ranges = ranges_are (further spot 2) fs k.ranges count c.0; rules = c.1 }, numbers_are (further spot 2) fs b.0)
-    where
-      and_first : (a b : Bool) → (a && b) ≡ true → a ≡ true
-      and_first a b h = grind arith
-      and_second : (a b : Bool) → (a && b) ≡ true → b ≡ true
-      and_second a b h = grind arith
+  where
+    and_first : (a b : Bool) → (a && b) ≡ true → a ≡ true
+    and_first a b h = grind arith
+
+    and_second : (a b : Bool) → (a && b) ≡ true → b ≡ true
+    and_second a b h = grind arith
 
 -- ---- the line feed
 
@@ -93,8 +94,8 @@ feed_found bytes h =
     let inside : at < 40 = omega (arith, p.2) in
     let there : is_line_feed (get_or bytes at p.1) ≡ true = ap is_line_feed (sym (get_or-take 40 bytes at p.1 inside) ∙ p.3) ∙ p.4 in
     elim (cases_lt at (position_or_len is_line_feed bytes)) [
-      inl l ↦ let no = fails_before_first is_line_feed bytes at p.1 l in absurd (grind arith)
-    | inr l ↦ omega (arith, p.2)
+      | inl l ↦ let no = fails_before_first is_line_feed bytes at p.1 l in absurd (grind arith)
+      | inr l ↦ omega (arith, p.2)
     ]
 
 pub line_cut : (bytes : List ℕ) → ends_in_time bytes ≡ true → bytes ≡ first_line bytes ++ (10 ∷ after_line bytes)

@@ -29,8 +29,8 @@ Free c bytes = All (λ b. (b == c) ≡ false) bytes
 decimal_free : (c n : ℕ) → (IsInRange 48 57 c → ⊥) → n ≤ million → Free c (decimal n)
 decimal_free c n other few =
     All-from_get_or (λ b. (b == c) ≡ false) (decimal n) 0 (λ i inside.
-        let apart = not_in_digits own (decimal n) c (digits_decimal own n (omega arith)) other i inside in
-        grind (arith, nat_tests))
+    let apart = not_in_digits own (decimal n) c (digits_decimal own n (omega arith)) other i inside in
+    grind (arith, nat_tests))
 
 numbers_free : (numbers : List ℕ) → Few numbers → Free 10 (flat_map (λ n. 59 ∷ decimal n) numbers)
 numbers_free [] few = All-nil (λ b. (b == 10) ≡ false)

@@ -39,14 +39,14 @@ move_walk columns b i j t xs readable h k l agrees =
     let next : q + 1 ≡ place b.states i (j + 1) t = omega arith in
     rw (share_inside b i j t h k l) (subst (λ q. On columns b (t + 1) xs (t + 1) q (move_text t i j p)) next
     (elim (eqb_tells p 0) [
-      inl none ↦ rw (none.0) (record { shares = xs; agrees = agrees_skip b q xs agrees none.1; walks = walk_none columns (at b (t + 1) xs) })
-    | inr some ↦
-        let up : 1 ≤ p = omega (arith, some.1) in
-        rw (some.0) (record {
-          shares = padded xs q ++ p ∷ [];
-          agrees = agrees_more b q p xs agrees refl up;
-          walks = walk_line columns (at b (t + 1) xs) (at b (t + 1) (padded xs q ++ p ∷ [])) 84 (t ∷ i ∷ j ∷ p ∷ []) refl refl refl (λ spot. move_keeps columns b i j t xs spot readable h k l agrees.low up) (λ spot. refl);
-        })
+      | inl none ↦ rw (none.0) (record { shares = xs; agrees = agrees_skip b q xs agrees none.1; walks = walk_none columns (at b (t + 1) xs) })
+      | inr some ↦
+          let up : 1 ≤ p = omega (arith, some.1) in
+          rw (some.0) (record {
+            shares = padded xs q ++ p ∷ [];
+            agrees = agrees_more b q p xs agrees refl up;
+            walks = walk_line columns (at b (t + 1) xs) (at b (t + 1) (padded xs q ++ p ∷ [])) 84 (t ∷ i ∷ j ∷ p ∷ []) refl refl refl (λ spot. move_keeps columns b i j t xs spot readable h k l agrees.low up) (λ spot. refl);
+          })
     ]))
 
 -- the moves of a year

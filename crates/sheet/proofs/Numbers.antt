@@ -1,5 +1,5 @@
 -- A field is a number exactly if it is the decimal form of one below 10 ^ 11. Assumes nothing.
-use Rattle.std.proofs.Common.{◌≡◌, ℕ, zero, suc, ◌+◌, ◌-◌, ◌^◌, ◌<◌, ◌≤◌, List, [], ◌∷◌, length, get_or, take, true, false, sym, ap, ◌∙◌, arith, decimal, not-suc-le-zero, le_of_suc-le-suc, Option, Some, None, MatchOption, Result, Ok, Err, MatchResult, is_err}
+use Rattle.std.proofs.Common.{◌≡◌, ℕ, zero, suc, ◌-◌, ◌^◌, ◌<◌, ◌≤◌, List, [], ◌∷◌, length, get_or, take, true, false, sym, ap, ◌∙◌, arith, decimal, not-suc-le-zero, le_of_suc-le-suc, Option, Some, None, MatchOption, Result, Ok, Err, MatchResult, is_err}
 use Rattle.std.proofs.lemmas.Bool.Decides.{nat_tests}
 use Rattle.std.proofs.lemmas.Fmt.{decimal-digits_value, digits_decimal, digits_value-decimal, length-decimal-le, first_decimal, decimal_digit, decimal_nonempty}
 use Rattle.std.proofs.lemmas.Str.Parse.{IsNumeralModel, numerals_by_value, tells_all_ascii_digits, digits_value_short}

@@ -1,8 +1,8 @@
 -- Reading comes to one outcome. Assumes nothing.
-use Rattle.std.proofs.Common.{◌≡◌, ℕ, List, refl, sym, ap, ◌∙◌, arith}
+use Rattle.std.proofs.Common.{◌≡◌, ℕ, List, refl, arith}
 use Rattle.sheet.specs.declared.columns.Columns.{Columns}
 use Rattle.sheet.specs.Sheets.{Sheet}
-use Rattle.sheet.specs.Reading.{Outcome, Reads, breaks, ends_here, goes_on, refused, ends}
+use Rattle.sheet.specs.Reading.{Outcome, Reads, breaks, ends_here, goes_on}
 use Rattle.sheet.specs.declared.spot.Spot.{Spot}
 
 pub one_outcome : (columns : Columns) (s : Sheet) (spot : Spot) (bytes : List ℕ) (a b : Outcome) → Reads columns s spot bytes a → Reads columns s spot bytes b → a ≡ b

@@ -1,7 +1,7 @@
 -- Where the first element stands that passes a test. Assumes nothing.
-use Rattle.std.proofs.Common.{◌≡◌, ℕ, zero, suc, ◌+◌, ◌-◌, ◌==◌, ◌<◌, ◌≤◌, min, ◌++◌, nat_lt, Bool, true, false, not, cond, List, [], ◌∷◌, All, length, take, drop, Option, Some, None, is_none, sym, ap, ◌∙◌, refl, arith, le_of_suc-le-suc, not-suc-le-zero}
+use Rattle.std.proofs.Common.{◌≡◌, ℕ, zero, suc, ◌+◌, ◌-◌, ◌==◌, ◌<◌, ◌≤◌, ◌++◌, nat_lt, Bool, true, false, not, List, [], ◌∷◌, All, length, take, drop, Option, Some, None, is_none, ap, ◌∙◌, refl, arith, le_of_suc-le-suc, not-suc-le-zero}
 use Rattle.std.proofs.lemmas.Bool.Decides.{nat_tests}
-use Rattle.std.proofs.lemmas.List.{take_all, length-drop, length-append, take-append-drop, take_min}
+use Rattle.std.proofs.lemmas.List.{take_all, length-drop, length-append, take-append-drop}
 use Rattle.std.proofs.lemmas.List.Folds.{prefix_len-append}
 use Rattle.std.proofs.lemmas.List.Splits.{slice_split_first, slice_split_none, length-slice_split}
 use Rattle.sheet.specs.Fields.{parts_left}
@@ -51,4 +51,3 @@ found_early p xs n i h =
     let long = length-append (take n xs) (drop n xs) in
     let joined : Some i ≡ position p (take n xs ++ drop n xs) = grind (arith, nat_tests) in
     joined ∙ ap (position p) (take-append-drop n xs)
-

@@ -23,7 +23,7 @@ nothing_behind bytes minus none = none_behind bytes minus (λ n w. none (suc n) 
 pub nought_behind : (bytes : List ℕ) → get_or bytes 0 0 ≡ 45 → Writes (take (length bytes - 1) (drop 1 bytes)) 0 → (z : ℤ) → WritesSigned bytes z → ⊥
 nought_behind bytes minus nought =
     none_behind bytes minus (λ n w.
-      let m = w.most in
-      let same : decimal 0 ≡ decimal (suc n) = sym nought.text ∙ rest_of bytes ∙ w.text in
-      let zero = decimal_injective 0 (suc n) (omega arith) (omega arith) same in
-      omega (arith, zero))
+    let m = w.most in
+    let same : decimal 0 ≡ decimal (suc n) = sym nought.text ∙ rest_of bytes ∙ w.text in
+    let zero = decimal_injective 0 (suc n) (omega arith) (omega arith) same in
+    omega (arith, zero))

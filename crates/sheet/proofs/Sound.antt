@@ -43,14 +43,14 @@ reads_so columns _ _ _ _ before says at (breaks s spot bytes fault broken) = rec
 reads_so columns _ _ _ _ before says at (ends_here s spot bytes kept last) =
     let step = one_step columns s spot bytes before says at kept in
     elim step.next [
-      inl whole ↦ record { text = step.text ∙ ap (λ x. x ++ after_line bytes) whole.1.text; lawful = whole.1.lawful; room = whole.1.room }
-    | inr more ↦ absurd (grind arith)
+      | inl whole ↦ record { text = step.text ∙ ap (λ x. x ++ after_line bytes) whole.1.text; lawful = whole.1.lawful; room = whole.1.room }
+      | inr more ↦ absurd (grind arith)
     ]
 reads_so columns _ _ _ outcome before says at (goes_on s spot bytes _ kept more reads) =
     let step = one_step columns s spot bytes before says at kept in
     elim step.next [
-      inl whole ↦ absurd (grind arith)
-    | inr next ↦ subst (λ x. IsSo columns x outcome) (sym step.text) (reads_so columns _ _ _ outcome (before ++ step.line) next.1 step.after reads)
+      | inl whole ↦ absurd (grind arith)
+      | inr next ↦ subst (λ x. IsSo columns x outcome) (sym step.text) (reads_so columns _ _ _ outcome (before ++ step.line) next.1 step.after reads)
     ]
 
 -- bytes that are read to their end are a sheet

@@ -84,14 +84,14 @@ Next columns s bytes ends = ((ends ≡ true) × Whole columns s bytes) ⊎ ((end
 letters : (columns : Columns) (s : Sheet) (spot : Spot) (letter : ℕ) → (kind columns s spot letter).may_stand ≡ true → (letter ≡ 66) ⊎ ((letter ≡ 68) ⊎ ((letter ≡ 84) ⊎ (letter ≡ 69)))
 letters columns s spot letter h =
     elim (eqb_tells letter 66) [
-      inl a ↦ inl a.1
-    | inr a ↦ elim (eqb_tells letter 68) [
-        inl b ↦ inr (inl b.1)
-      | inr b ↦ elim (eqb_tells letter 84) [
-          inl c ↦ inr (inr (inl c.1))
-        | inr c ↦ elim (eqb_tells letter 69) [
-            inl d ↦ inr (inr (inr d.1))
-          | inr d ↦ let no : false ≡ true = rw (a.0, b.0, c.0, d.0) at h in grind arith
+      | inl a ↦ inl a.1
+      | inr a ↦ elim (eqb_tells letter 68) [
+        | inl b ↦ inr (inl b.1)
+        | inr b ↦ elim (eqb_tells letter 84) [
+          | inl c ↦ inr (inr (inl c.1))
+          | inr c ↦ elim (eqb_tells letter 69) [
+            | inl d ↦ inr (inr (inr d.1))
+            | inr d ↦ let no : false ≡ true = rw (a.0, b.0, c.0, d.0) at h in grind arith
           ]
         ]
       ]
@@ -101,12 +101,12 @@ pub line_follows : (columns : Columns) (s : Sheet) (spot : Spot) (letter : ℕ) 
 line_follows columns s spot letter before numbers says keeps =
     let P : ℕ → Type 0 = λ c. KeepsKind (kind columns s spot c) numbers → Next columns ((kind columns s spot c).makes numbers) (before ++ line_text c numbers) (c == 69) in
     elim (letters columns s spot letter keeps.stands) [
-      inl e ↦ subst P (sym e) (λ k. inr (refl, basis_follows columns s spot before numbers says k)) keeps
-    | inr e ↦ elim e [
-        inl e ↦ subst P (sym e) (λ k. inr (refl, year_follows columns s spot before numbers says k)) keeps
+      | inl e ↦ subst P (sym e) (λ k. inr (refl, basis_follows columns s spot before numbers says k)) keeps
       | inr e ↦ elim e [
-          inl e ↦ subst P (sym e) (λ k. inr (refl, move_follows columns s spot before numbers says k)) keeps
-        | inr e ↦ subst P (sym e) (λ k. inl (refl, end_follows columns s spot before numbers says k)) keeps
+        | inl e ↦ subst P (sym e) (λ k. inr (refl, year_follows columns s spot before numbers says k)) keeps
+        | inr e ↦ elim e [
+          | inl e ↦ subst P (sym e) (λ k. inr (refl, move_follows columns s spot before numbers says k)) keeps
+          | inr e ↦ subst P (sym e) (λ k. inl (refl, end_follows columns s spot before numbers says k)) keeps
         ]
       ]
     ]

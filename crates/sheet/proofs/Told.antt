@@ -1,5 +1,5 @@
 -- What an outcome of reading says of the bytes, and that they can say nothing else. Assumes nothing.
-use Rattle.std.proofs.Common.{◌≡◌, ℕ, List, ◌++◌, ℤ, sym, ap, subst, ◌∙◌, arith}
+use Rattle.std.proofs.Common.{◌≡◌, ℕ, List, ℤ, sym, ap, subst, ◌∙◌, arith}
 use Rattle.std.proofs.lemmas.List.{append_cancel_right}
 use Rattle.units.specs.declared.fault.Fault.{Fault}
 use Rattle.sheet.specs.Faults.{Refuses, spot_past}

@@ -39,9 +39,9 @@ ranges_kept spot (n ∷ ns) [] more few inside kept = absurd inside
 ranges_kept spot (n ∷ ns) (r ∷ rs) more few inside kept =
     let one : in_range r (digits_value 10 (decimal n)) ≡ true = ap (in_range r) (value_of_decimal n (omega (arith, few.0))) ∙ in_range_is r n inside.0 in
     rw one (ranges_kept (further spot (length (decimal n) + 1)) ns rs more few.1 inside.1 kept)
-    where
-      in_range_is : (r : Range) (n : ℕ) → (r.low ≤ n) × (n ≤ r.high) → in_range r n ≡ true
-      in_range_is r n h = grind (arith, nat_tests)
+  where
+    in_range_is : (r : Range) (n : ℕ) → (r.low ≤ n) × (n ≤ r.high) → in_range r n ≡ true
+    in_range_is r n h = grind (arith, nat_tests)
 
 same_count : (numbers : List ℕ) (ranges : List Range) → InRanges numbers ranges → length (map decimal numbers) ≡ length ranges
 same_count [] [] inside = refl

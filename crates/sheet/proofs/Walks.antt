@@ -30,9 +30,11 @@ walk_none columns s = record { on = λ spot tail outcome reads. let same : past 
 
 pub walk_on : (columns : Columns) (s u v : Sheet) (a b : List ℕ) → Walks columns s a u → Walks columns u b v → Walks columns s (a ++ b) v
 walk_on columns s u v a b first then =
-    record { on = λ spot tail outcome reads.
-        let behind : Reads columns v (past (past spot a) b) tail outcome = subst (λ x. Reads columns v x tail outcome) (sym (past_append spot a b)) reads in
-        subst (λ bytes. Reads columns s spot bytes outcome) (sym (append_assoc a b tail)) (first.on spot (b ++ tail) outcome (then.on (past spot a) tail outcome behind)) }
+    record {
+      on = λ spot tail outcome reads.
+          let behind : Reads columns v (past (past spot a) b) tail outcome = subst (λ x. Reads columns v x tail outcome) (sym (past_append spot a b)) reads in
+          subst (λ bytes. Reads columns s spot bytes outcome) (sym (append_assoc a b tail)) (first.on spot (b ++ tail) outcome (then.on (past spot a) tail outcome behind));
+    }
 
 -- a line has one line feed
 one_feed : (line : List ℕ) → Free 10 line → count_by is_line_feed (line ++ 10 ∷ []) ≡ 1
@@ -49,15 +51,17 @@ spot_past_line spot letter numbers tail feed few =
 -- a line that keeps the rules is a step
 pub walk_line : (columns : Columns) (s to : Sheet) (letter : ℕ) (numbers : List ℕ) → (letter == 10) ≡ false → (letter == 59) ≡ false → (letter == 69) ≡ false → ((spot : Spot) → Keeps (kind columns s spot letter) numbers) → ((spot : Spot) → (kind columns s spot letter).makes numbers ≡ to) → Walks columns s (line_text letter numbers) to
 walk_line columns s to letter numbers feed semicolon more keeps makes =
-    record { on = λ spot tail outcome reads.
-        let few = (keeps spot).few in
-        let bytes = line_text letter numbers ++ tail in
-        let sheet : with_line columns s spot bytes ≡ to = line_makes columns s spot letter numbers tail feed semicolon few ∙ makes spot in
-        let goes : ends_sheet (parts (first_line bytes)) ≡ false = ap ends_sheet (parts_of_text letter numbers tail feed semicolon few) ∙ more in
-        goes_on s spot bytes outcome (line_kept columns s spot letter numbers tail feed semicolon (keeps spot)) goes
-        (subst (λ x. Reads columns x (spot_after spot bytes) (after_line bytes) outcome) (sym sheet)
-        (subst (λ x. Reads columns to x (after_line bytes) outcome) (sym (spot_past_line spot letter numbers tail feed few))
-        (subst (λ x. Reads columns to (past spot (line_text letter numbers)) x outcome) (sym (after_text letter numbers tail feed few)) reads))) }
+    record {
+      on = λ spot tail outcome reads.
+          let few = (keeps spot).few in
+          let bytes = line_text letter numbers ++ tail in
+          let sheet : with_line columns s spot bytes ≡ to = line_makes columns s spot letter numbers tail feed semicolon few ∙ makes spot in
+          let goes : ends_sheet (parts (first_line bytes)) ≡ false = ap ends_sheet (parts_of_text letter numbers tail feed semicolon few) ∙ more in
+          goes_on s spot bytes outcome (line_kept columns s spot letter numbers tail feed semicolon (keeps spot)) goes
+          (subst (λ x. Reads columns x (spot_after spot bytes) (after_line bytes) outcome) (sym sheet)
+          (subst (λ x. Reads columns to x (after_line bytes) outcome) (sym (spot_past_line spot letter numbers tail feed few))
+          (subst (λ x. Reads columns to (past spot (line_text letter numbers)) x outcome) (sym (after_text letter numbers tail feed few)) reads)));
+    }
 
 -- the last line that keeps the rules is the end
 pub walk_ends : (columns : Columns) (s to : Sheet) (spot : Spot) (rest : List ℕ) → Keeps (kind columns s spot 69) [] → (kind columns s spot 69).makes [] ≡ to → Reads columns s spot (line_text 69 [] ++ rest) (ends to rest)

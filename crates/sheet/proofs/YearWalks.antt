@@ -32,7 +32,7 @@ full_on_way b (suc t) xs most agrees whole =
     let some : (suc t == 0) ≡ false = grind (arith, nat_tests) in
     let before : suc t - 1 ≡ t = omega arith in
     rw (years, some, before) (all_to (λ i. row_total (at b (suc t) xs) t i == million) 0 b.states (λ i _ h.
-        eq-eqb (row_total (at b (suc t) xs) t i) million (row_on_way b i t (suc t) xs (omega arith) (omega arith) agrees ∙ whole i t (omega arith) (omega arith))))
+    eq-eqb (row_total (at b (suc t) xs) t i) million (row_on_way b i t (suc t) xs (omega arith) (omega arith) agrees ∙ whole i t (omega arith) (omega arith))))
 
 -- the line of a year keeps its rules
 year_keeps : (columns : Columns) (b : Sheet) (t : ℕ) (xs : List ℕ) (spot : Spot) → Readable columns b → t < length b.factors → Agrees b (place b.states 0 0 t) xs → Keeps (kind columns (at b t xs) spot 68) (t ∷ get_or b.factors t 0 ∷ [])

@@ -1,6 +1,7 @@
 pub mod Checks
 pub mod Faults
 pub mod Fields
+pub mod FirstLines
 pub mod Lines
 pub mod Numerals
 pub mod Readers
@@ -9,3 +10,4 @@ pub mod Readings
 pub mod Sheets
 pub mod SplitLines
 pub mod Texts
+pub mod WorkedSheet

@@ -1,5 +1,5 @@
 -- A sheet read line by line. Assumes nothing.
-use Rattle.std.specs.Prelude.{◌≡◌, ℕ, ◌+◌, Bool, true, false, List, [], length, Some, None}
+use Rattle.std.specs.Prelude.{◌≡◌, ℕ, true, false, List, [], Some, None}
 use Rattle.units.specs.declared.fault.Fault.{Fault}
 use Rattle.sheet.specs.Checks.{first_broken, line_checks, made_by, ends_sheet}
 use Rattle.sheet.specs.Lines.{first_line, after_line, spot_after, parts}

@@ -3,7 +3,6 @@ use Rattle.std.specs.Prelude.{◌≡◌, ℕ, List, [], ◌∷◌, map}
 use Rattle.sheet.specs.Fields.{bytes_of, StandFrom}
 use Rattle.sheet.specs.Lines.{parts, further}
 use Rattle.sheet.specs.declared.part.Part.{Part}
-use Rattle.sheet.specs.declared.spot.Spot.{Spot}
 use Rattle.sheet.specs.declared.line.Line.{Line}
 use Rattle.sheet.specs.declared.line.Line.TheVariants.{Basis, Year, Move, End, Issue, Close, Alter, Leave}
 

@@ -7,7 +7,9 @@ ghost use Rattle.sheet.specs.Lines.{start};
 ghost use Rattle.sheet.specs.Readers.{held};
 ghost use Rattle.sheet.specs.Reading.{Reads, ends, refused, nothing_yet};
 ghost use Rattle.sheet.specs.Readings.{lengths, IsRestAfter, IsRead};
-ghost use Rattle.sheet.specs.Sheets.{Sheet, IsSheet};
+ghost use Rattle.sheet.specs.Sheets.{Sheet, IsSheet, basis_of};
+ghost use Rattle.sheet.specs.Texts.{text_of};
+ghost use Rattle.sheet.specs.WorkedSheet.{worked_sheet, worked_text};
 
 use crate::columns::Columns;
 use crate::part::Part;
@@ -16,11 +18,7 @@ use crate::reading::Reading;
 use units::fault::Fault;
 
 // Takes line after line up to the end of the sheet, and gives what stands after it.
-fn read_lines<'a>(
-    bytes: &'a [u8],
-    reader: &mut Reader,
-    columns: Columns,
-) -> Result<Part<'a>, Fault>
+fn read_lines<'a>(bytes: &'a [u8], reader: &mut Reader, columns: Columns) -> Result<Part<'a>, Fault>
     requires { held reader.old ≡ nothing_yet }
     ensures outcome { MatchResult result (λ rest. Reads columns nothing_yet start bytes.now (ends (held reader.new) (bytes_of rest))) (λ fault. Reads columns nothing_yet start bytes.now (refused fault)) }
     ensures rest { IfOk result (λ rest. (before : List ℕ) × IsRestAfter before bytes.now rest) }
@@ -45,6 +43,7 @@ pub fn read<'a>(
     ensures answer { MatchResult result (λ reading. (s : Sheet) × IsRead bytes.now factors.old shares.old factors.new shares.new reading s) (λ fault. Refuses (lengths factors.old shares.old) bytes.now fault × (factors.new ≡ factors.old) × (shares.new ≡ shares.old)) }
     ensures every_sheet { (s : Sheet) (rest : List ℕ) → IsSheet (lengths factors.old shares.old) bytes.now s rest → IsOkAnd result (λ reading. (bytes_of reading.rest ≡ rest) × IsRead bytes.now factors.old shares.old factors.new shares.new reading s) }
     ensures every_fault { (fault : Fault) → Refuses (lengths factors.old shares.old) bytes.now fault → result ≡ Err fault }
+    ensures worked { text_of (basis_of worked_sheet) ≡ worked_text }
 {
     let columns = Columns {
         factors: factors.len(),

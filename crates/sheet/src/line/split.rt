@@ -26,12 +26,22 @@ fn with_fields<'a>(byte: u8, rest: Option<Part<'a>>) -> Option<Line<'a>>
         }
         'T' => {
             let (year, from, to, share) = rest?.four()?;
-            Some(Line::Move { year, from, to, share })
+            Some(Line::Move {
+                year,
+                from,
+                to,
+                share,
+            })
         }
         'E' if rest.is_none() => Some(Line::End),
         'Q' => {
             let (sum, term, paying_years, deposit) = rest?.four()?;
-            Some(Line::Issue { sum, term, paying_years, deposit })
+            Some(Line::Issue {
+                sum,
+                term,
+                paying_years,
+                deposit,
+            })
         }
         'C' => {
             let (state, rate) = rest?.two()?;
@@ -39,7 +49,11 @@ fn with_fields<'a>(byte: u8, rest: Option<Part<'a>>) -> Option<Line<'a>>
         }
         'A' => {
             let (sum, term, paying_years) = rest?.three()?;
-            Some(Line::Alter { sum, term, paying_years })
+            Some(Line::Alter {
+                sum,
+                term,
+                paying_years,
+            })
         }
         'L' if rest.is_none() => Some(Line::Leave),
         _ => None,

@@ -17,9 +17,18 @@ impl<'a> Part<'a> {
         let Spot { line, offset } = self.spot;
         match first_place(self.bytes, b';') {
             Some(end) => {
-                let first = Part { bytes: &self.bytes[..end], spot: self.spot };
-                let spot = Spot { line, offset: offset + end + 1 };
-                let rest = Part { bytes: &self.bytes[end + 1..], spot };
+                let first = Part {
+                    bytes: &self.bytes[..end],
+                    spot: self.spot,
+                };
+                let spot = Spot {
+                    line,
+                    offset: offset + end + 1,
+                };
+                let rest = Part {
+                    bytes: &self.bytes[end + 1..],
+                    spot,
+                };
                 (first, Some(rest))
             }
             None => (self, None),

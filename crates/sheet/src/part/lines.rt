@@ -1,10 +1,11 @@
 // The lines of the input.
-ghost use Rattle.std.specs.Prelude.{◌≡◌, false, true, IfOk, MatchResult};
+ghost use Rattle.std.specs.Prelude.{◌≡◌, false, MatchResult};
 ghost use Rattle.units.specs.Faults.{text_fault};
 ghost use Rattle.units.specs.declared.fault.Layer.TheVariants.{Sheet};
 ghost use Rattle.sheet.specs.Checks.{ends_in_time};
 ghost use Rattle.sheet.specs.Fields.{bytes_of};
-ghost use Rattle.sheet.specs.Lines.{first_line, after_line, spot_after, start};
+ghost use Rattle.sheet.specs.FirstLines.{IsFirstLine};
+ghost use Rattle.sheet.specs.Lines.{start};
 
 use super::Part;
 use crate::search::first_place;
@@ -39,18 +40,25 @@ impl<'a> Part<'a> {
 
     // The first line without its line feed, and what stands after that.
     pub fn first_line(self) -> Result<(Part<'a>, Part<'a>), Fault>
-        ensures in_time { MatchResult result (λ _. ends_in_time (bytes_of self.entry) ≡ true) (λ fault. (ends_in_time (bytes_of self.entry) ≡ false) × (fault ≡ text_fault 2 Sheet self.entry.spot.line self.entry.spot.offset)) }
-        ensures line { IfOk result (λ parts. (bytes_of parts.0 ≡ first_line (bytes_of self.entry)) × (parts.0.spot ≡ self.entry.spot)) }
-        ensures rest { IfOk result (λ parts. (bytes_of parts.1 ≡ after_line (bytes_of self.entry)) × (parts.1.spot ≡ spot_after self.entry.spot (bytes_of self.entry))) }
+        ensures { MatchResult result (λ parts. IsFirstLine self.entry parts.0 parts.1) (λ fault. (ends_in_time (bytes_of self.entry) ≡ false) × (fault ≡ text_fault 2 Sheet self.entry.spot.line self.entry.spot.offset)) }
     {
         let bytes = self.bytes;
         let in_time = &bytes[..bytes.len().min(MOST_BYTES)];
         let Some(end) = first_place(in_time, b'\n') else {
             return Err(self.spot.fault(Rule::LineFeed));
         };
-        let spot = Spot { line: self.spot.line + 1, offset: self.spot.offset + end + 1 };
-        let line = Part { bytes: &bytes[..end], spot: self.spot };
-        let rest = Part { bytes: &bytes[end + 1..], spot };
+        let spot = Spot {
+            line: self.spot.line + 1,
+            offset: self.spot.offset + end + 1,
+        };
+        let line = Part {
+            bytes: &bytes[..end],
+            spot: self.spot,
+        };
+        let rest = Part {
+            bytes: &bytes[end + 1..],
+            spot,
+        };
         Ok((line, rest))
     }
 }

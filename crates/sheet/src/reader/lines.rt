@@ -21,7 +21,12 @@ impl Reader {
         match Line::split(whole)? {
             Line::Basis { states, years } => self.take_basis(spot, states, years, columns)?,
             Line::Year { year, factor } => self.take_year(spot, year, factor)?,
-            Line::Move { year, from, to, share } => self.take_move(spot, year, from, to, share)?,
+            Line::Move {
+                year,
+                from,
+                to,
+                share,
+            } => self.take_move(spot, year, from, to, share)?,
             Line::End => {
                 self.take_end(spot)?;
                 return Ok(true);

@@ -8,6 +8,10 @@ mod moves;
 mod new;
 mod years;
 
+use units::{MOST_STATES, MOST_YEARS};
+
+const MOST_SHARES: usize = MOST_YEARS * MOST_STATES * MOST_STATES;
+
 // The factors of the years that have come, and the shares before the place `next`. Memory is on the stack: a refused sheet leaves
 // the columns of the caller as they were.
 #[derive(Drop)]
@@ -16,8 +20,8 @@ pub(crate) struct Reader {
     years: usize,
     come: usize,
     next: usize,
-    factors: [u32; 120],
-    shares: [u32; 7680],
+    factors: [u32; MOST_YEARS],
+    shares: [u32; MOST_SHARES],
     ghost least_states: { 1 ≤ years → 2 ≤ states },
     ghost most_states: { states ≤ 8 },
     ghost most_years: { years ≤ 120 },

@@ -1,7 +1,6 @@
 // The moves of a year.
-ghost use Rattle.std.specs.Prelude.{◌≡◌, ◌≤◌, [], ◌∷◌, length, sum, true, false, IsTrue};
-ghost use Rattle.units.specs.Faults.{text_fault};
-ghost use Rattle.sheet.specs.Checks.{move_line, full_rows};
+ghost use Rattle.std.specs.Prelude.{[], ◌∷◌};
+ghost use Rattle.sheet.specs.Checks.{move_line};
 ghost use Rattle.sheet.specs.Fields.{StandFrom};
 ghost use Rattle.sheet.specs.Lines.{further};
 ghost use Rattle.sheet.specs.Readers.{held, Takes};
@@ -29,7 +28,12 @@ impl Reader {
         if self.come == 0 {
             return Err(spot.fault(Rule::Form));
         }
-        let (t, i, j, p) = (year.number()?, from.number()?, to.number()?, share.number()?);
+        let (t, i, j, p) = (
+            year.number()?,
+            from.number()?,
+            to.number()?,
+            share.number()?,
+        );
         let t = year.within(t, 0, self.years - 1)?;
         let i = from.within(i, 0, self.states - 1)?;
         let j = to.within(j, 0, self.states - 1)?;

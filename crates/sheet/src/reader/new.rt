@@ -3,7 +3,8 @@ ghost use Rattle.std.specs.Prelude.{◌≡◌};
 ghost use Rattle.sheet.specs.Readers.{held};
 ghost use Rattle.sheet.specs.Reading.{nothing_yet};
 
-use super::Reader;
+use super::{MOST_SHARES, Reader};
+use units::MOST_YEARS;
 
 impl Reader {
     // Before the first line.
@@ -15,8 +16,8 @@ impl Reader {
             years: 0,
             come: 0,
             next: 0,
-            factors: [0; 120],
-            shares: [0; 7680],
+            factors: [0; MOST_YEARS],
+            shares: [0; MOST_SHARES],
         }
     }
 }

@@ -1,17 +1,22 @@
-use Rattle.std.proofs.Common.{◌≡◌, ℕ, ◌*◌, ◌≤◌, length, Err, map, pos, sym, ap, ◌∙◌, refl, rules, arith}
+use Rattle.std.proofs.Common.{◌≡◌, Err, pos, ap, ◌∙◌, rules, arith}
 use Rattle.std.proofs.lemmas.List.{length-map}
-use Rattle.units.specs.declared.fault.Fault.{Fault}
-use Rattle.sheet.specs.Faults.{Refuses, spot_past}
+use Rattle.sheet.specs.Faults.{Refuses}
 use Rattle.sheet.specs.Fields.{bytes_of}
 use Rattle.sheet.specs.Lines.{start}
 use Rattle.sheet.specs.Readers.{held}
 use Rattle.sheet.specs.Reading.{Reads, nothing_yet, ends, refused}
-use Rattle.sheet.specs.Readings.{lengths, IsRead}
-use Rattle.sheet.specs.Sheets.{Sheet, IsSheet, basis_of}
-use Rattle.sheet.specs.Texts.{text_of}
+use Rattle.sheet.specs.Readings.{lengths}
+use Rattle.sheet.specs.Sheets.{IsSheet}
 use Rattle.sheet.proofs.Told.{no_sheet, same_fault, no_fault, is_read, each_sheet}
 use Rattle.sheet.proofs.Sound.{reads_ended, reads_refused}
+use Rattle.sheet.proofs.Worked.{worked}
 use Rattle.sheet.proofs.read.read.Goals as goal
+
+pub returns-in_err-rest-clause-worked : goal.returns-in_err-rest-clause-worked
+returns-in_err-rest-clause-worked c = worked
+
+pub returns-clause-worked : goal.returns-clause-worked
+returns-clause-worked c = worked
 
 pub returns-in_err-rest-clause-answer : goal.returns-in_err-rest-clause-answer
 returns-in_err-rest-clause-answer c =

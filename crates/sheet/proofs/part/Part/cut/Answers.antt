@@ -1,4 +1,4 @@
-use Rattle.std.proofs.Common.{◌≡◌, ◌==◌, sym, ◌∙◌}
+use Rattle.std.proofs.Common.{◌==◌, sym, ◌∙◌}
 use Rattle.sheet.proofs.Places.{split_found, split_missing}
 use Rattle.sheet.proofs.part.Part.cut.Goals as goal
 

@@ -1,4 +1,4 @@
-use Rattle.std.proofs.Common.{arith, ap, length}
+use Rattle.std.proofs.Common.{arith}
 use Rattle.sheet.proofs.Places.{some_parts}
 use Rattle.sheet.proofs.part.Part.two.Goals as goal
 

@@ -1,4 +1,4 @@
-use Rattle.std.proofs.Common.{◌≡◌, rules, arith}
+use Rattle.std.proofs.Common.{rules, arith}
 use Rattle.sheet.proofs.Signs.{nothing_behind, nought_behind}
 use Rattle.sheet.proofs.part.number.signed.Goals as goal
 

@@ -1,6 +1,4 @@
-use Rattle.std.proofs.Common.{◌≡◌, ◌≤◌, ℕ, ◌<◌, length, get_or, arith, rules}
-use Rattle.std.proofs.lemmas.Bool.Decides.{nat_tests}
-use Rattle.sheet.specs.Numerals.{Writes}
+use Rattle.std.proofs.Common.{arith}
 use Rattle.sheet.proofs.Numbers.{nothing_written, nought_written, leading_nought, too_long, digits_decide}
 use Rattle.sheet.proofs.part.number.unsigned.Goals as goal
 

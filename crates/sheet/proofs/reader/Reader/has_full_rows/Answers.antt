@@ -1,7 +1,5 @@
-use Rattle.std.proofs.Common.{◌≡◌, ℕ, ◌<◌, ◌+◌, ◌-◌, ◌*◌, sum, take, drop, length, sym, ◌∙◌, inl, inr, arith, rules}
+use Rattle.std.proofs.Common.{sym, inl, inr, arith}
 use Rattle.std.proofs.lemmas.Bool.{cases_lt}
-use Rattle.units.specs.Ranges.{million}
-use Rattle.basis.specs.TransitionColumns.{row_number}
 use Rattle.sheet.proofs.Held.{reader_row, row_misses, rows_full}
 use Rattle.sheet.proofs.reader.Reader.has_full_rows.Goals as goal
 
@@ -12,8 +10,8 @@ returns-then-total-from c =
 pub loop-state-preserved : goal.loop-state-preserved
 loop-state-preserved c =
     λ i h. elim (cases_lt i c.loop-state.state) [
-      inl l ↦ c.loop-state.invariant i l
-    | inr l ↦ let row = reader_row c.args.self.now i (grind arith) (grind arith) (omega (arith, h, c.loop-state-test.true)) in grind arith
+      | inl l ↦ c.loop-state.invariant i l
+      | inr l ↦ let row = reader_row c.args.self.now i (grind arith) (grind arith) (omega (arith, h, c.loop-state-test.true)) in grind arith
     ]
 
 pub returns : goal.returns

@@ -1,4 +1,3 @@
-use Rattle.std.proofs.Common.{◌≡◌, get_or, replicate}
 use Rattle.sheet.proofs.Joins.{noughts}
 use Rattle.sheet.proofs.reader.Reader.new.Goals as goal
 

@@ -1,4 +1,4 @@
-use Rattle.std.proofs.Common.{◌≡◌, ◌∙◌, sym, ap, set, rules, arith}
+use Rattle.std.proofs.Common.{rules}
 use Rattle.sheet.proofs.Filled.{fill_more}
 use Rattle.sheet.proofs.reader.fill.fill.Goals as goal
 
