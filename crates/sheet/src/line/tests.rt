@@ -1,0 +1,105 @@
+// The lines of sheets and commands, taken apart.
+use super::Line;
+use crate::part::Part;
+use crate::spot::Spot;
+use units::fault::{Fault, Layer, Place};
+
+// A field's bytes and its offset.
+fn told<'a>(field: Part<'a>) -> (&'a [u8], usize) {
+    let Spot { line: _, offset } = field.spot();
+    (field.bytes(), offset)
+}
+
+#[test]
+fn knows_the_letters_of_commands(rt: HostRuntime) -> Result<(), Fault> {
+    let sum = (b"1000000".as_slice(), 2);
+    match Line::split(Part::new(b"Q;1000000;2;1;50"))? {
+        Line::Issue {
+            sum: s,
+            term,
+            paying_years,
+            deposit,
+        } => {
+            assert_eq!(rt; (told(s), told(term)), (sum, (b"2".as_slice(), 10)));
+            assert_eq!(rt; told(paying_years), (b"1".as_slice(), 12));
+            assert_eq!(rt; told(deposit), (b"50".as_slice(), 14));
+        }
+        _ => panic!(rt; "no issue"),
+    }
+    match Line::split(Part::new(b"A;1000000;2;1"))? {
+        Line::Alter {
+            sum: s,
+            term,
+            paying_years,
+        } => {
+            assert_eq!(rt; (told(s), told(term)), (sum, (b"2".as_slice(), 10)));
+            assert_eq!(rt; told(paying_years), (b"1".as_slice(), 12));
+        }
+        _ => panic!(rt; "no alteration"),
+    }
+    match Line::split(Part::new(b"C;1;-10000"))? {
+        Line::Close { state, rate } => {
+            assert_eq!(rt; told(state), (b"1".as_slice(), 2));
+            assert_eq!(rt; told(rate), (b"-10000".as_slice(), 4));
+        }
+        _ => panic!(rt; "no closing"),
+    }
+    assert_eq!(rt; Line::split(Part::new(b"L")), Ok(Line::Leave));
+    assert_eq!(rt; Line::split(Part::new(b"E")), Ok(Line::End));
+    Ok(())
+}
+
+#[test]
+fn knows_how_many_fields_a_letter_has(rt: HostRuntime) {
+    let place = Place::Text { line: 1, offset: 0 };
+    let fault = Fault {
+        number: 3,
+        layer: Layer::Sheet,
+        place,
+    };
+    let unfit = [
+        "",
+        ";",
+        "B",
+        "B;1",
+        "B;1;2;3",
+        "D;1",
+        "D;1;2;3",
+        "T;1;2;3",
+        "T;1;2;3;4;5",
+        "E;",
+        "E;1",
+        "Q;1;2;3",
+        "Q;1;2;3;4;5",
+        "C;1",
+        "C;1;2;3",
+        "A;1;2",
+        "A;1;2;3;4",
+        "L;",
+        "L;1",
+        "X",
+        "BB;1;2",
+        "b;1;2",
+        ";B;1;2",
+    ];
+    for text in unfit {
+        assert_eq!(rt;
+            Line::split(Part::new(text.as_bytes())),
+            Err(fault),
+            "{text}"
+        );
+    }
+    let fit = [
+        "B;;",
+        "D;1;2",
+        "T;1;2;3;4",
+        "E",
+        "Q;;;;",
+        "C;x;-",
+        "A;1;2;3",
+        "L",
+    ];
+    for text in fit {
+        assert!(rt; Line::split(Part::new(text.as_bytes())).is_ok(), "{text}");
+    }
+}
