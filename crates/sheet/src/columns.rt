@@ -2,7 +2,7 @@
 
 // How many entries they have.
 #[derive(Clone, Copy, PartialEq, Eq, Debug)]
-pub(crate) struct Columns {
-    pub(crate) factors: usize,
-    pub(crate) shares: usize,
+pub struct Columns {
+    pub factors: usize,
+    pub shares: usize,
 }

@@ -1,7 +1,7 @@
 // Sheets: a basis as text, read line by line.
 #![tactic(auto)]
 
-mod columns;
+pub mod columns;
 pub mod line;
 pub mod part;
 pub mod read;
