@@ -84,12 +84,7 @@ fn rules_go_by_their_numbers(rt: HostRuntime) -> Result<(), Fail> {
             Layer::Sheet,
             "a year or a pair of states is out of order",
         ),
-        (
-            8,
-            Rule::Row,
-            Layer::Sheet,
-            "a row misses the million",
-        ),
+        (8, Rule::Row, Layer::Sheet, "a row misses the million"),
         (
             9,
             Rule::Size,
@@ -132,7 +127,14 @@ fn rules_go_by_their_numbers(rt: HostRuntime) -> Result<(), Fail> {
         let fault = Fault::at_entry(number, layer, 7, 3);
         assert_eq!(rt; Fault::breach(rule, 7, 3), fault);
         let place = Place::Text { line: 7, offset: 3 };
-        assert_eq!(rt; Fault::in_text(rule, 7, 3), Fault { number, layer, place });
+        assert_eq!(rt;
+            Fault::in_text(rule, 7, 3),
+            Fault {
+                number,
+                layer,
+                place
+            }
+        );
         let told = fault.to_string(rt.alloc())?;
         assert!(rt; told.as_str().ends_with(words));
         let shown = rule.to_string(rt.alloc())?;
