@@ -10,6 +10,7 @@ pub mod columns;
 pub mod courses;
 pub mod premiums;
 pub mod reserves;
+pub mod sheets;
 pub mod spans;
 #[cfg(test)]
 mod tests;
