@@ -126,6 +126,7 @@ fn refusals_go_by_their_numbers(rt: HostRuntime) {
     );
 }
 
+// On a sheet of the first of these years, with a byte after it.
 #[test]
 fn sheets_are_read_or_refused(rt: HostRuntime) {
     let text = b"B;2;1\nD;0;900000\nT;0;0;0;900000\nT;0;0;1;100000\nT;0;1;1;1000000\nE\nQ";
