@@ -26,6 +26,14 @@ fn line(text: &mut Vec<u8>, letter: char, numbers: &[i64]) {
     text.push(b'\n');
 }
 
+// A line for each share of a year that is above nought.
+fn move_lines(text: &mut Vec<u8>, states: usize, year: usize, moves: &[i64]) {
+    for (place, share) in moves.iter().enumerate().filter(|(_, share)| **share > 0) {
+        let (from, to) = ((place / states) as i64, (place % states) as i64);
+        line(text, 'T', &[year as i64, from, to, *share]);
+    }
+}
+
 impl Sheet {
     // The sheet of a basis, and columns that just suffice.
     pub fn of(states: usize, factors: &[i64], shares: &[i64]) -> Self {
@@ -34,10 +42,7 @@ impl Sheet {
         let years = factors.iter().zip(shares.chunks_exact(states * states));
         for (year, (factor, moves)) in years.enumerate() {
             line(&mut text, 'D', &[year as i64, *factor]);
-            for (place, share) in moves.iter().enumerate().filter(|(_, share)| **share > 0) {
-                let (from, to) = ((place / states) as i64, (place % states) as i64);
-                line(&mut text, 'T', &[year as i64, from, to, *share]);
-            }
+            move_lines(&mut text, states, year, moves);
         }
         line(&mut text, 'E', &[]);
         Sheet {

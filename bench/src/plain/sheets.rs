@@ -95,13 +95,18 @@ impl<'a> Line<'a> {
         }
     }
 
-    // The numbers of all fields, each in its range.
-    fn numbers<const N: usize>(self, ranges: [RangeInclusive<i64>; N]) -> Result<[i64; N], Fault> {
-        let fields: [&[u8]; N] = self.fields()?;
+    fn parsed<const N: usize>(self, fields: [&[u8]; N]) -> Result<[i64; N], Fault> {
         let mut numbers = [0; N];
         for (entry, field) in numbers.iter_mut().zip(fields) {
             *entry = number(field).ok_or_else(|| self.field_fault(UNFIT_NUMBER, field))?;
         }
+        Ok(numbers)
+    }
+
+    // The numbers of all fields, each in its range.
+    fn numbers<const N: usize>(self, ranges: [RangeInclusive<i64>; N]) -> Result<[i64; N], Fault> {
+        let fields = self.fields()?;
+        let numbers = self.parsed(fields)?;
         for ((entry, field), range) in numbers.iter().zip(fields).zip(ranges) {
             if !range.contains(entry) {
                 return Err(self.field_fault(UNFIT_RANGE, field));
