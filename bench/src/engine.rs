@@ -1,6 +1,7 @@
 // The engine, through its exports to C.
 use crate::contract::Contract;
 use crate::question::Question;
+use crate::sheet::Report;
 use std::ffi::c_uchar;
 
 // A slice in a struct.
@@ -87,6 +88,16 @@ unsafe extern "C" {
         premiums: *mut i64,
         premium_count: usize,
     ) -> c_uchar;
+
+    fn fineochre_read_sheet(
+        bytes: *const u8,
+        byte_count: usize,
+        factors: *mut i64,
+        factor_count: usize,
+        shares: *mut i64,
+        share_count: usize,
+        report: *mut Report,
+    ) -> c_uchar;
 }
 
 // Writes what is asked to the places, and answers 0 or the number of the first refusal. Below, each pointer and its length are
@@ -136,6 +147,21 @@ fn spans(columns: &Columns, state: usize, year: usize, premiums: &[i64], places:
             least.len(),
             greatest.as_mut_ptr(),
             greatest.len(),
+        )
+    }
+}
+
+// Reads a sheet into the first places of the columns, and answers 0 or the number of the first refusal, which leaves them as they were.
+pub fn read_sheet(text: &[u8], factors: &mut [i64], shares: &mut [i64], report: &mut Report) -> u8 {
+    unsafe {
+        fineochre_read_sheet(
+            text.as_ptr(),
+            text.len(),
+            factors.as_mut_ptr(),
+            factors.len(),
+            shares.as_mut_ptr(),
+            shares.len(),
+            report,
         )
     }
 }

@@ -31,7 +31,7 @@ impl Random {
         self.within(low as i64, high as i64) as usize
     }
 
-    fn one_in(&mut self, count: i64) -> bool {
+    pub fn one_in(&mut self, count: i64) -> bool {
         self.within(1, count) == 1
     }
 

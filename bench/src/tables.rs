@@ -2,7 +2,7 @@
 use crate::contract::{Contract, LIMIT};
 use crate::question::Question;
 use crate::random::Random;
-use crate::timing::{self, Work};
+use crate::timing::{self, Times, Work};
 
 // The sizes that are timed: states and years.
 const SIZES: [(&str, usize, usize); 3] = [("full", 8, 120), ("middle", 3, 40), ("small", 2, 60)];
@@ -80,19 +80,37 @@ fn courses<'a>(contract: &Contract, entries: &'a [i64]) -> Work<'a> {
     }
 }
 
-fn print(table: &Table, random: &mut Random) {
-    println!("\n{}", table.heading);
+fn print_heading(heading: &str) {
+    println!("\n{heading}");
     println!("size     states  years      engine       plain   ratio");
+}
+
+fn print_row(name: &str, states: usize, years: usize, times: &Times) {
+    println!(
+        "{name:<8}{states:>7}{years:>7}{:>12.0}{:>12.0}{:>8.2}",
+        times.engine,
+        times.plain,
+        times.engine / times.plain
+    );
+}
+
+fn print(table: &Table, random: &mut Random) {
+    print_heading(table.heading);
     for ((name, states, years), pieces) in SIZES.into_iter().zip(table.pieces) {
         let contract = random.contract(states, years, years);
         let entries: Vec<i64> = (0..pieces).map(|_| random.within(0, LIMIT)).collect();
         let times = timing::compare(&contract, &(table.work)(&contract, &entries));
-        println!(
-            "{name:<8}{states:>7}{years:>7}{:>12.0}{:>12.0}{:>8.2}",
-            times.engine,
-            times.plain,
-            times.engine / times.plain
-        );
+        print_row(name, states, years, &times);
+    }
+}
+
+// The sheets have a line for each share.
+fn print_readings(random: &mut Random) {
+    print_heading("One sheet, read into columns");
+    for ((name, states, years), pieces) in SIZES.into_iter().zip([2, 50, 50]) {
+        let sheet = random.full_sheet(states, years);
+        let times = timing::compare_readings(&sheet, pieces);
+        print_row(name, states, years, &times);
     }
 }
 
@@ -104,4 +122,5 @@ pub fn print_all(random: &mut Random) {
     for table in &TABLES {
         print(table, random);
     }
+    print_readings(random);
 }

@@ -1,6 +1,7 @@
 // The times of both sides, taken in turn so that the machine's moods fall on both.
 use crate::contract::Contract;
 use crate::question::Question;
+use crate::sheet::{Report, Sheet};
 use crate::{engine, plain};
 use std::hint::black_box;
 use std::time::{Duration, Instant};
@@ -49,21 +50,57 @@ fn piece(all: Duration, none: Duration, pieces: usize) -> f64 {
     (all.as_nanos() as f64 - none.as_nanos() as f64) / pieces as f64
 }
 
+// The best time of each part of a round.
+fn best<const N: usize>(mut round: impl FnMut() -> [Duration; N]) -> [Duration; N] {
+    let mut best = [Duration::MAX; N];
+    for _ in 0..ROUNDS {
+        let times = round();
+        best = std::array::from_fn(|k| best[k].min(times[k]));
+    }
+    best
+}
+
 pub fn compare(contract: &Contract, work: &Work) -> Times {
     let most = work.all.iter().map(|question| question.places(contract));
     let mut places = vec![0; most.max().unwrap_or(0)];
-    let mut best = [Duration::MAX; 4];
-    for _ in 0..ROUNDS {
-        let times = [
+    let best = best(|| {
+        [
             time(engine::answer, contract, &work.all, &mut places),
             time(plain::answer, contract, &work.all, &mut places),
             time(engine::answer, contract, &work.none, &mut places),
             time(plain::answer, contract, &work.none, &mut places),
-        ];
-        best = std::array::from_fn(|k| best[k].min(times[k]));
-    }
+        ]
+    });
     Times {
         engine: piece(best[0], best[2], work.pieces),
         plain: piece(best[1], best[3], work.pieces),
+    }
+}
+
+type Reader = fn(&[u8], &mut [i64], &mut [i64], &mut Report) -> u8;
+
+fn time_reading(reader: Reader, sheet: &Sheet, places: &mut [i64], pieces: usize) -> Duration {
+    let (factors, shares) = places.split_at_mut(sheet.factors);
+    let mut report = Report::default();
+    let start = Instant::now();
+    for _ in 0..pieces {
+        let number = reader(black_box(&sheet.text), factors, shares, &mut report);
+        assert_eq!(number, 0, "a timed sheet is lawful");
+        black_box((&mut *factors, &mut *shares, &mut report));
+    }
+    start.elapsed()
+}
+
+pub fn compare_readings(sheet: &Sheet, pieces: usize) -> Times {
+    let mut places = vec![0; sheet.factors + sheet.shares];
+    let best = best(|| {
+        [
+            time_reading(engine::read_sheet, sheet, &mut places, pieces),
+            time_reading(plain::read_sheet, sheet, &mut places, pieces),
+        ]
+    });
+    Times {
+        engine: piece(best[0], Duration::ZERO, pieces),
+        plain: piece(best[1], Duration::ZERO, pieces),
     }
 }

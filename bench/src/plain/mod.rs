@@ -1,6 +1,9 @@
-// The same rules in ordinary Rust, written from docs/RULES.md alone.
+// The same rules in ordinary Rust, written from docs/RULES.md alone, and for sheets from the specifications of crates/sheet.
+mod sheets;
 mod sweeps;
 mod tables;
+
+pub use sheets::read_sheet;
 
 use crate::contract::{Contract, LIMIT};
 use crate::question::Question;

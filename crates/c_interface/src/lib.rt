@@ -1,5 +1,6 @@
-// The engine for callers in C: each export takes columns, makes tables of them and calls the library. A call answers 0 where it
-// is done. Otherwise it writes nothing and answers the number of a rule, or one of those that stand for no rule.
+// The engine for callers in C: each export takes columns, makes tables of them and calls the library, but for the one that reads a
+// sheet into columns. A call answers 0 where it is done. Otherwise it answers the number of a rule, or one of those that stand for no
+// rule, and writes nothing but where a sheet is at fault.
 #![tactic(auto)]
 
 ghost use Rattle.std.specs.Prelude.{◌≡◌, ◌↔◌, IsTrue, pos};
@@ -10,6 +11,7 @@ pub mod columns;
 pub mod courses;
 pub mod premiums;
 pub mod reserves;
+pub mod sheets;
 pub mod spans;
 #[cfg(test)]
 mod tests;

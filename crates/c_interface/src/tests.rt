@@ -4,6 +4,7 @@ use crate::columns::Columns;
 use crate::courses::fineochre_course;
 use crate::premiums::fineochre_premiums;
 use crate::reserves::fineochre_reserves;
+use crate::sheets::{SheetReport, fineochre_read_sheet};
 use crate::spans::fineochre_spans;
 
 const SHARES: [i64; 8] = [
@@ -123,4 +124,54 @@ fn refusals_go_by_their_numbers(rt: HostRuntime) {
         fineochre_course(rt.alloc(), &columns, 0, 0, &mut [7; 5]),
         22
     );
+}
+
+// On a sheet of the first of these years, with a byte after it.
+#[test]
+fn sheets_are_read_or_refused(rt: HostRuntime) {
+    let text = b"B;2;1\nD;0;900000\nT;0;0;0;900000\nT;0;0;1;100000\nT;0;1;1;1000000\nE\nQ";
+    let untold = SheetReport {
+        states: 7,
+        years: 7,
+        line: 7,
+        offset: 7,
+    };
+
+    let (mut factors, mut shares, mut report) = ([7; 2], [7; 5], untold);
+    assert_eq!(rt;
+        fineochre_read_sheet(text, &mut factors, &mut shares, &mut report),
+        0
+    );
+    assert_eq!(rt; factors, [900_000, 7]);
+    assert_eq!(rt; shares, [900_000, 100_000, 0, 1_000_000, 7]);
+    assert_eq!(rt;
+        [report.states, report.years, report.line, report.offset],
+        [2, 1, 7, 65]
+    );
+
+    // bytes, places for shares, answer, line, offset
+    let cases = [
+        (65, 4, 0, 7, 65),
+        (65, 3, 6, 1, 0),
+        (64, 4, 2, 6, 63),
+        (46, 4, 2, 4, 32),
+    ];
+    for (bytes, places, answer, line, offset) in cases {
+        let (mut factors, mut shares, mut report) = ([7; 1], [7; 4], untold);
+        assert_eq!(rt;
+            fineochre_read_sheet(
+                &text[..bytes],
+                &mut factors,
+                &mut shares[..places],
+                &mut report
+            ),
+            answer
+        );
+        assert_eq!(rt; [report.line, report.offset], [line, offset]);
+        if answer != 0 {
+            assert_eq!(rt; [report.states, report.years], [7, 7]);
+            assert_eq!(rt; factors, [7]);
+            assert_eq!(rt; shares, [7; 4]);
+        }
+    }
 }
