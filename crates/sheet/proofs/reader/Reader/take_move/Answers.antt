@@ -1,4 +1,4 @@
-use Rattle.std.proofs.Common.{◌≡◌, ◌<◌, ◌+◌, ◌*◌, ◌∷◌, [], ◌++◌, take, set, length, arith}
+use Rattle.std.proofs.Common.{◌≡◌, ◌<◌, ◌≤◌, ◌+◌, ◌*◌, ◌∷◌, [], ◌++◌, take, set, length, arith}
 use Rattle.std.proofs.lemmas.Bool.Decides.{nat_tests}
 use Rattle.std.proofs.lemmas.List.{length-take-le}
 use Rattle.std.specs.Str.Parse.{digits_value}
@@ -17,6 +17,9 @@ returns c =
     let j = c.in_ok-j-2.j in
     let p = c.in_ok-p-2.p in
     let fit = places_fit r.states r.years r.most_states r.most_years in
+    let this_year : t + 1 ≡ r.come = c.if-t-self.false in
+    let rising : r.next ≤ place r.states i j t = c.if-place-self.false in
+    let some : 1 ≤ p = grind arith in
     let come : length (take r.come r.factors) ≡ r.come = length-take-le r.come r.factors (grind arith) in
     let next : length (take r.next r.shares) ≡ r.next = length-take-le r.next r.shares (grind arith) in
     let year : t ≡ digits_value 10 (bytes_of c.args.year) = grind arith in
@@ -24,5 +27,5 @@ returns c =
     let to : j ≡ digits_value 10 (bytes_of c.args.to) = grind arith in
     let share : p ≡ digits_value 10 (bytes_of c.args.share) = grind arith in
     let inside : place r.states i j t < r.years * r.states * r.states = place_in_year r.states i j t r.years (grind arith) (grind arith) (grind arith) in
-    let shares : take (place r.states i j t + 1) (set r.shares (place r.states i j t) p) ≡ padded (take r.next r.shares) (place r.states i j t) ++ p ∷ [] = put_held r.shares r.next (place r.states i j t) p (grind arith) (grind arith) r.noughts in
+    let shares : take (place r.states i j t + 1) (set r.shares (place r.states i j t) p) ≡ padded (take r.next r.shares) (place r.states i j t) ++ p ∷ [] = put_held r.shares r.next (place r.states i j t) p rising (grind arith) r.noughts in
     (grind (arith, nat_tests), cc)
