@@ -52,11 +52,9 @@ begin_walk columns s readable =
     let fits : (nat_le s.years columns.factors && nat_le (s.years * s.states * s.states) columns.shares) ≡ true = grind (arith, nat_tests) in
     walk_line columns nothing_yet (at s 0 []) 66 (s.states ∷ s.years ∷ []) refl refl refl
     (λ spot. record {
-      stands = refl;
+      kept = record { stands = refl; ranges = ((readable.least_states, size), ((readable.least_years, long), tt)); rules = rw fits refl };
       most = omega arith;
       few = (omega arith, (omega arith, tt));
-      ranges = ((readable.least_states, size), ((readable.least_years, long), tt));
-      rules = rw fits refl;
     })
     (λ spot. refl)
 

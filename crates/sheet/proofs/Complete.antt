@@ -40,11 +40,9 @@ end_keeps columns s xs spot lawful agrees =
     let some = lawful.size.least_years in
     let came = years_of_lawful s lawful in
     record {
-      stands = grind (arith, nat_tests);
+      kept = record { stands = grind (arith, nat_tests); ranges = tt; rules = rw (end_full s xs lawful agrees) refl };
       most = omega arith;
       few = tt;
-      ranges = tt;
-      rules = rw (end_full s xs lawful agrees) refl;
     }
 
 -- the text of a lawful basis is that of its years, and the end

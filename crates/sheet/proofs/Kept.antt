@@ -19,7 +19,7 @@ use Rattle.sheet.specs.Sheets.{Sheet}
 use Rattle.sheet.specs.Texts.{line_of, line_text}
 use Rattle.sheet.specs.declared.spot.Spot.{Spot}
 use Rattle.sheet.proofs.Numbers.{number_writes}
-use Rattle.sheet.proofs.Unbroken.{InRanges}
+use Rattle.sheet.proofs.Unbroken.{InRanges, KeepsKind}
 
 -- ---- no check is broken
 
@@ -62,12 +62,6 @@ letter_is : (columns : Columns) (s : Sheet) (spot : Spot) (head : List ℕ) → 
 letter_is columns s spot [] h = grind arith
 letter_is columns s spot (c ∷ []) h = refl
 letter_is columns s spot (c ∷ (d ∷ ds)) h = grind arith
-
--- these numbers keep the rules of the kind
-pub record KeepsKind (k : Kind) (numbers : List ℕ) : Type 0 where
-  pub stands : k.may_stand ≡ true
-  pub ranges : InRanges numbers k.ranges
-  pub rules : first_broken (k.rules numbers) ≡ None
 
 kind_of_none : (spot : Spot) (fs : List (List ℕ)) (k : Kind) → first_broken (kind_checks spot fs k) ≡ None → KeepsKind k (map (digits_value 10) fs) × (flat_map (λ f. 59 ∷ f) fs ≡ flat_map (λ n. 59 ∷ decimal n) (map (digits_value 10) fs))
 kind_of_none spot fs k h =

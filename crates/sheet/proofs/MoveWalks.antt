@@ -24,11 +24,9 @@ move_keeps columns b i j t xs spot readable h k l low some =
     let years = years_at b (t + 1) (omega arith) in
     let order : (t + 1 == length (take (t + 1) b.factors) && nat_le (length xs) (place b.states i j t)) ≡ true = grind (arith, nat_tests) in
     record {
-      stands = grind (arith, nat_tests);
+      kept = record { stands = grind (arith, nat_tests); ranges = ((omega arith, omega arith), ((omega arith, omega arith), ((omega arith, omega arith), ((some, most), tt)))); rules = rw order refl };
       most = omega arith;
       few = (omega arith, (omega arith, (omega arith, (most, tt))));
-      ranges = ((omega arith, omega arith), ((omega arith, omega arith), ((omega arith, omega arith), ((some, most), tt))));
-      rules = rw order refl;
     }
 
 -- a move

@@ -10,7 +10,8 @@ use Rattle.sheet.specs.Texts.{line_text, text_of}
 use Rattle.sheet.specs.declared.spot.Spot.{Spot}
 use Rattle.sheet.proofs.Added.{basis_adds, year_adds, move_adds, end_adds}
 use Rattle.sheet.proofs.Begun.{basis_begins, year_begins, move_begins, end_lawful}
-use Rattle.sheet.proofs.Kept.{KeepsKind, first_none}
+use Rattle.sheet.proofs.Kept.{first_none}
+use Rattle.sheet.proofs.Unbroken.{KeepsKind}
 
 -- the bytes are the text of a lawful basis, for which the columns suffice
 pub record Whole (columns : Columns) (s : Sheet) (bytes : List ℕ) : Type 0 where

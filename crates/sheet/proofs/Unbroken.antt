@@ -20,13 +20,17 @@ InRanges [] (r ∷ rs) = ⊥
 InRanges (n ∷ ns) [] = ⊥
 InRanges (n ∷ ns) (r ∷ rs) = ((r.low ≤ n) × (n ≤ r.high)) × InRanges ns rs
 
--- a line with these numbers keeps the rules of its kind
-pub record Keeps (k : Kind) (numbers : List ℕ) : Type 0 where
+-- these numbers keep the rules of the kind
+pub record KeepsKind (k : Kind) (numbers : List ℕ) : Type 0 where
   pub stands : k.may_stand ≡ true
-  pub most : length numbers ≤ 4
-  pub few : Few numbers
   pub ranges : InRanges numbers k.ranges
   pub rules : first_broken (k.rules numbers) ≡ None
+
+-- and their line is short
+pub record Keeps (k : Kind) (numbers : List ℕ) : Type 0 where
+  pub kept : KeepsKind k numbers
+  pub most : length numbers ≤ 4
+  pub few : Few numbers
 
 numbers_kept : (spot : Spot) (numbers : List ℕ) (more : List Check) → Few numbers → first_broken more ≡ None → first_broken (number_checks spot (map decimal numbers) ++ more) ≡ None
 numbers_kept spot [] more few kept = kept
@@ -51,9 +55,9 @@ same_count (n ∷ ns) (r ∷ rs) inside = ap suc (same_count ns rs inside.1)
 
 kind_kept : (spot : Spot) (numbers : List ℕ) (k : Kind) → Keeps k numbers → first_broken (kind_checks spot (map decimal numbers) k) ≡ None
 kind_kept spot numbers k keeps =
-    let count : (length (map decimal numbers) == length k.ranges) ≡ true = eq-eqb _ _ (same_count numbers k.ranges keeps.ranges) in
-    let rules : first_broken (k.rules (map (digits_value 10) (map decimal numbers))) ≡ None = ap (λ ns. first_broken (k.rules ns)) (values_of numbers keeps.few) ∙ keeps.rules in
-    rw (keeps.stands, count) (numbers_kept (further spot 2) numbers _ keeps.few (ranges_kept (further spot 2) numbers k.ranges _ keeps.few keeps.ranges rules))
+    let count : (length (map decimal numbers) == length k.ranges) ≡ true = eq-eqb _ _ (same_count numbers k.ranges keeps.kept.ranges) in
+    let rules : first_broken (k.rules (map (digits_value 10) (map decimal numbers))) ≡ None = ap (λ ns. first_broken (k.rules ns)) (values_of numbers keeps.few) ∙ keeps.kept.rules in
+    rw (keeps.kept.stands, count) (numbers_kept (further spot 2) numbers _ keeps.few (ranges_kept (further spot 2) numbers k.ranges _ keeps.few keeps.kept.ranges rules))
 
 -- the text of a line, cut up
 pub first_of_text : (letter : ℕ) (numbers tail : List ℕ) → (letter == 10) ≡ false → Few numbers → first_line (line_text letter numbers ++ tail) ≡ line_of letter numbers

@@ -44,11 +44,9 @@ year_keeps columns b t xs spot readable l agrees =
     let order : (t == length (take t b.factors)) ≡ true = eq-eqb _ _ (sym years) in
     let full : full_rows (at b t xs) ≡ true = full_on_way b t xs (omega arith) agrees (λ i u h e. readable.rows i u h (omega arith)) in
     record {
-      stands = grind (arith, nat_tests);
+      kept = record { stands = grind (arith, nat_tests); ranges = ((omega arith, omega arith), (v, tt)); rules = rw (order, full) refl };
       most = omega arith;
       few = (omega arith, (v.1, tt));
-      ranges = ((omega arith, omega arith), (v, tt));
-      rules = rw (order, full) refl;
     }
 
 factor_inside : (b : Sheet) (t : ℕ) → t < length b.factors → (basis_of b).factor t ≡ get_or b.factors t 0
