@@ -8,6 +8,8 @@ use std::fmt;
 
 #[derive(Clone, Copy, PartialEq, Eq, Debug)]
 pub enum Rule {
+    // How long the input may be.
+    Input,
     // That a line ends in time.
     LineFeed,
     // The letter of a line, and how many fields it has.
@@ -28,8 +30,21 @@ pub enum Rule {
     Share,
     // All that a plan is made of.
     Payment,
+    // That a command finds a contract, or none where it issues one.
+    Standing,
+    StartState,
+    Deposit,
+    // That a year is left to close.
+    YearLeft,
+    EndState,
+    // The rate that was earned.
+    Rate,
+    // That the move of a closing has a share.
+    PossibleMove,
     // That some premium in range suffices.
     Premium,
+    // That a closing or an alteration can be given a number.
+    NumberLeft,
     // That the course fits into the column for it.
     Course,
 }
@@ -39,6 +54,7 @@ impl Rule {
         ensures { result ≡ rule_number self }
     {
         match self {
+            Rule::Input => 1,
             Rule::LineFeed => 2,
             Rule::Form => 3,
             Rule::Number => 4,
@@ -50,7 +66,15 @@ impl Rule {
             Rule::Factor => 10,
             Rule::Share => 11,
             Rule::Payment => 12,
+            Rule::Standing => 13,
+            Rule::StartState => 14,
+            Rule::Deposit => 15,
+            Rule::YearLeft => 16,
+            Rule::EndState => 17,
+            Rule::Rate => 18,
+            Rule::PossibleMove => 19,
             Rule::Premium => 20,
+            Rule::NumberLeft => 21,
             Rule::Course => 22,
         }
     }
@@ -61,10 +85,24 @@ impl Rule {
     {
         match self {
             Rule::Number | Rule::Range => Layer::Field,
-            Rule::LineFeed | Rule::Form | Rule::Room | Rule::Order | Rule::Row => Layer::Sheet,
+            Rule::Input
+            | Rule::LineFeed
+            | Rule::Form
+            | Rule::Room
+            | Rule::Order
+            | Rule::Row
+            | Rule::Standing => Layer::Sheet,
             Rule::Size | Rule::Factor | Rule::Share => Layer::Basis,
             Rule::Payment => Layer::Plan,
-            Rule::Premium | Rule::Course => Layer::Contract,
+            Rule::StartState
+            | Rule::Deposit
+            | Rule::YearLeft
+            | Rule::EndState
+            | Rule::Rate
+            | Rule::PossibleMove
+            | Rule::Premium
+            | Rule::NumberLeft
+            | Rule::Course => Layer::Contract,
         }
     }
 
@@ -73,6 +111,7 @@ impl Rule {
         ensures { result.now ≡ rule_text (rule_number self) }
     {
         match self {
+            Rule::Input => "the input has more than 60000 bytes",
             Rule::LineFeed => "a line has no line feed within 40 bytes",
             Rule::Form => "a letter may not stand here or the number of fields differs",
             Rule::Number => "a field is not 1 to 11 digits without leading nought",
@@ -85,7 +124,16 @@ impl Rule {
             Rule::Share => "a share is outside 0 to a million or a row misses the million",
             Rule::Payment =>
                 "a year, a state or the length of a column of a plan is unfit or an entry is out of range",
+            Rule::Standing =>
+                "a command needs a contract and none stands or a contract stands already",
+            Rule::StartState => "the start state is not in the basis",
+            Rule::Deposit => "the deposit is outside 0 to the limit",
+            Rule::YearLeft => "no year is left to close",
+            Rule::EndState => "the end state is not in the basis",
+            Rule::Rate => "the rate is outside -500000 to 500000",
+            Rule::PossibleMove => "the share of the move is nought",
             Rule::Premium => "no premium from 0 to the limit will do",
+            Rule::NumberLeft => "number 9999 has been given",
             Rule::Course => "the column for the course is too short",
         }
     }
@@ -102,6 +150,7 @@ impl TryFrom<u8> for Rule {
 
     fn try_from(number: u8) -> Result<Rule, UnknownRule> {
         match number {
+            1 => Ok(Rule::Input),
             2 => Ok(Rule::LineFeed),
             3 => Ok(Rule::Form),
             4 => Ok(Rule::Number),
@@ -113,7 +162,15 @@ impl TryFrom<u8> for Rule {
             10 => Ok(Rule::Factor),
             11 => Ok(Rule::Share),
             12 => Ok(Rule::Payment),
+            13 => Ok(Rule::Standing),
+            14 => Ok(Rule::StartState),
+            15 => Ok(Rule::Deposit),
+            16 => Ok(Rule::YearLeft),
+            17 => Ok(Rule::EndState),
+            18 => Ok(Rule::Rate),
+            19 => Ok(Rule::PossibleMove),
             20 => Ok(Rule::Premium),
+            21 => Ok(Rule::NumberLeft),
             22 => Ok(Rule::Course),
             _ => Err(UnknownRule(number)),
         }

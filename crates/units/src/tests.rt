@@ -49,6 +49,12 @@ fn amounts_lie_from_nought_to_the_limit(rt: HostRuntime) -> Result<(), Fail> {
 fn rules_go_by_their_numbers(rt: HostRuntime) -> Result<(), Fail> {
     let cases = [
         (
+            1,
+            Rule::Input,
+            Layer::Sheet,
+            "the input has more than 60000 bytes",
+        ),
+        (
             2,
             Rule::LineFeed,
             Layer::Sheet,
@@ -110,10 +116,58 @@ fn rules_go_by_their_numbers(rt: HostRuntime) -> Result<(), Fail> {
             "a year, a state or the length of a column of a plan is unfit or an entry is out of range",
         ),
         (
+            13,
+            Rule::Standing,
+            Layer::Sheet,
+            "a command needs a contract and none stands or a contract stands already",
+        ),
+        (
+            14,
+            Rule::StartState,
+            Layer::Contract,
+            "the start state is not in the basis",
+        ),
+        (
+            15,
+            Rule::Deposit,
+            Layer::Contract,
+            "the deposit is outside 0 to the limit",
+        ),
+        (
+            16,
+            Rule::YearLeft,
+            Layer::Contract,
+            "no year is left to close",
+        ),
+        (
+            17,
+            Rule::EndState,
+            Layer::Contract,
+            "the end state is not in the basis",
+        ),
+        (
+            18,
+            Rule::Rate,
+            Layer::Contract,
+            "the rate is outside -500000 to 500000",
+        ),
+        (
+            19,
+            Rule::PossibleMove,
+            Layer::Contract,
+            "the share of the move is nought",
+        ),
+        (
             20,
             Rule::Premium,
             Layer::Contract,
             "no premium from 0 to the limit will do",
+        ),
+        (
+            21,
+            Rule::NumberLeft,
+            Layer::Contract,
+            "number 9999 has been given",
         ),
         (
             22,
@@ -140,11 +194,10 @@ fn rules_go_by_their_numbers(rt: HostRuntime) -> Result<(), Fail> {
         let shown = rule.to_string(rt.alloc())?;
         assert!(rt; shown.as_str() == words);
     }
-    assert_eq!(rt; Rule::try_from(1), Err(UnknownRule(1)));
-    assert_eq!(rt; Rule::try_from(13), Err(UnknownRule(13)));
-    assert_eq!(rt; Rule::try_from(21), Err(UnknownRule(21)));
-    let unknown = UnknownRule(13).to_string(rt.alloc())?;
-    assert!(rt; unknown.as_str() == "no rule goes by 13");
+    assert_eq!(rt; Rule::try_from(0), Err(UnknownRule(0)));
+    assert_eq!(rt; Rule::try_from(23), Err(UnknownRule(23)));
+    let unknown = UnknownRule(23).to_string(rt.alloc())?;
+    assert!(rt; unknown.as_str() == "no rule goes by 23");
     Ok(())
 }
 
