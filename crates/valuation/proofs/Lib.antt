@@ -1,5 +1,7 @@
 pub mod Agreement
+pub mod Ahead
 pub mod Closeness
+pub mod CourseColumns
 pub mod Courses
 pub mod Enclosure
 pub mod Exact

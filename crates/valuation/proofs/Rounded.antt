@@ -8,7 +8,7 @@ use Rattle.units.proofs.Nearest.{to_nearest}
 use Rattle.valuation.specs.Means.{rounded_mean, rounded_discount}
 
 -- rounding does not leave a range of whole ticks
-nearest_within : (d : ℕ) (z : ℤ) → Within (1000000 * d) z → Within d (nearest z)
+pub nearest_within : (d : ℕ) (z : ℤ) → Within (1000000 * d) z → Within d (nearest z)
 nearest_within d z h =
     let n = to_nearest.within_half z in
     record { low = omega (arith, ints, h.low, n.low, n.high); high = omega (arith, ints, h.high, n.low, n.high) }

@@ -1,3 +1,4 @@
+pub mod Closings
 pub mod Comparisons
 pub mod Courses
 pub mod Exact

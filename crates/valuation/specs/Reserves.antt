@@ -23,3 +23,10 @@ module _ (c : Transitions) (p : Payments) where
   -- V(i, t)
   abbrev pub reserve : ℕ → ℕ → ℕ → ℤ
   reserve premium i t = reserve_with premium (c.years - t) i t
+
+  -- E and W in state i and year t, from the reserves a year later
+  abbrev pub expected_at : ℕ → ℕ → ℕ → ℤ
+  expected_at premium i t = expected i t (λ j. reserve premium j (t + 1))
+
+  abbrev pub present_at : ℕ → ℕ → ℕ → ℤ
+  present_at premium i t = present i t (λ j. reserve premium j (t + 1))

@@ -6,6 +6,7 @@ ghost use Rattle.std.specs.Mem.{type_size};
 ghost use Rattle.valuation.specs.Figures.{joined};
 ghost use Rattle.valuation.specs.Operations.{Operations, Ordered};
 
+pub mod closing;
 pub mod course;
 pub mod figure;
 mod fill;

@@ -1,7 +1,7 @@
 // The backward sweep, for every kind of figure. It allocates nothing: figures stand in arrays on the stack, as long as any basis
 // wants, which a valuation's law says to fit in memory. A slice to fill is handed on at once, so that its length stays a clause.
 ghost use Rattle.std.specs.Prelude.{◌≡◌, ◌+◌, ◌-◌, ◌*◌, ◌<◌, ◌≤◌, drop, length};
-ghost use Rattle.valuation.specs.Figures.{flow, figure, figures_of, rows_from};
+ghost use Rattle.valuation.specs.Figures.{flow, joined, discounted, figure, figures_of, rows_from};
 
 use crate::Valuation;
 use crate::fill::fill_each;
@@ -116,5 +116,31 @@ impl<'a, V: Valuation, B: Basis, P: Plan> Sweep<'a, V, B, P> {
             after: figures,
         }
         .figure(state)
+    }
+
+    // The pair of a state in a year that the basis has, and the figure of a state a year later.
+    pub(crate) fn ahead_of(
+        &self,
+        state: usize,
+        year: usize,
+        end: usize,
+    ) -> ((V::Figure, V::Figure), V::Figure)
+        requires year { year < (B.meaning self.now.basis.now).years }
+        requires end { end < (B.meaning self.now.basis.now).states }
+        ensures discounted { result.0.0 ≡ discounted (V.operations self.now.valuation.now) (B.meaning self.now.basis.now) (P.payments self.now.plan.now) state year (λ j. figure (V.operations self.now.valuation.now) (B.meaning self.now.basis.now) (P.payments self.now.plan.now) self.now.premium.ticks j (year + 1)) }
+        ensures joined { result.0.1 ≡ joined (V.operations self.now.valuation.now) (B.meaning self.now.basis.now) (P.payments self.now.plan.now) state year (λ j. figure (V.operations self.now.valuation.now) (B.meaning self.now.basis.now) (P.payments self.now.plan.now) self.now.premium.ticks j (year + 1)) }
+        ensures later { result.1 ≡ figure (V.operations self.now.valuation.now) (B.meaning self.now.basis.now) (P.payments self.now.plan.now) self.now.premium.ticks end (year + 1) }
+    {
+        let mut held = [self.valuation.make(0); MOST_STATES];
+        let figures = &mut held[..self.basis.states()];
+        self.back_to(year + 1, figures);
+        let later = figures[end];
+        let pair = Year {
+            sweep: self,
+            year,
+            after: figures,
+        }
+        .ahead(state);
+        (pair, later)
     }
 }

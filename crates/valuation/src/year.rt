@@ -32,7 +32,7 @@ impl<'a, V: Valuation, B: Basis, P: Plan> Year<'a, V, B, P> {
     }
 
     // The join of what follows a state, discounted and as it is.
-    fn ahead(&self, state: usize) -> (V::Figure, V::Figure)
+    pub(crate) fn ahead(&self, state: usize) -> (V::Figure, V::Figure)
         ensures discounted { result.0 ≡ discounted (V.operations self.now.sweep.now.valuation.now) (B.meaning self.now.sweep.now.basis.now) (P.payments self.now.sweep.now.plan.now) state self.now.year (λ j. figure (V.operations self.now.sweep.now.valuation.now) (B.meaning self.now.sweep.now.basis.now) (P.payments self.now.sweep.now.plan.now) self.now.sweep.now.premium.ticks j (self.now.year + 1)) }
         ensures joined { result.1 ≡ joined (V.operations self.now.sweep.now.valuation.now) (B.meaning self.now.sweep.now.basis.now) (P.payments self.now.sweep.now.plan.now) state self.now.year (λ j. figure (V.operations self.now.sweep.now.valuation.now) (B.meaning self.now.sweep.now.basis.now) (P.payments self.now.sweep.now.plan.now) self.now.sweep.now.premium.ticks j (self.now.year + 1)) }
     {
