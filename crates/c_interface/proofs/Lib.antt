@@ -1,3 +1,2 @@
 pub mod Places
 pub mod Tables
-pub mod SheetFaults

@@ -1,5 +1,5 @@
 -- What the text of a line is cut into. Assumes nothing.
-use Rattle.std.proofs.Common.{◌≡◌, ℕ, ◌+◌, ◌*◌, ◌<◌, ◌≤◌, true, false, List, [], ◌∷◌, ◌++◌, map, length, take, drop, ◌==◌, decimal, flat_map, refl, sym, ap, ap₂, ◌∙◌, arith}
+use Rattle.std.proofs.Common.{◌≡◌, ℕ, ◌+◌, ◌*◌, ◌^◌, ◌<◌, ◌≤◌, true, false, List, [], ◌∷◌, ◌++◌, map, length, take, drop, ◌==◌, decimal, flat_map, refl, sym, ap, ap₂, ◌∙◌, arith}
 use Rattle.std.specs.Int.{IsInRange}
 use Rattle.std.specs.List.{All, position_or_len}
 use Rattle.std.specs.Str.Parse.{digits_value}
@@ -26,8 +26,8 @@ Few (n ∷ ns) = (n ≤ million) × Few ns
 abbrev pub Free : ℕ → List ℕ → Type 0
 Free c bytes = All (λ b. (b == c) ≡ false) bytes
 
-decimal_free : (c n : ℕ) → (IsInRange 48 57 c → ⊥) → n ≤ million → Free c (decimal n)
-decimal_free c n other few =
+pub decimal_free : (c n : ℕ) → (IsInRange 48 57 c → ⊥) → n < 10 ^ 11 → Free c (decimal n)
+decimal_free c n other small =
     All-from_get_or (λ b. (b == c) ≡ false) (decimal n) 0 (λ i inside.
     let apart = not_in_digits own (decimal n) c (digits_decimal own n (omega arith)) other i inside in
     grind (arith, nat_tests))
@@ -35,7 +35,7 @@ decimal_free c n other few =
 numbers_free : (numbers : List ℕ) → Few numbers → Free 10 (flat_map (λ n. 59 ∷ decimal n) numbers)
 numbers_free [] few = All-nil (λ b. (b == 10) ≡ false)
 numbers_free (n ∷ ns) few =
-    All-append (λ b. (b == 10) ≡ false) (59 ∷ decimal n) _ (All-cons (λ b. (b == 10) ≡ false) 59 (decimal n) refl (decimal_free 10 n (λ h. omega arith) few.0)) (numbers_free ns few.1)
+    All-append (λ b. (b == 10) ≡ false) (59 ∷ decimal n) _ (All-cons (λ b. (b == 10) ≡ false) 59 (decimal n) refl (decimal_free 10 n (λ h. omega arith) (omega (arith, few.0)))) (numbers_free ns few.1)
 
 -- a line has no line feed
 pub line_free : (letter : ℕ) (numbers : List ℕ) → (letter == 10) ≡ false → Few numbers → Free 10 (line_of letter numbers)
@@ -62,7 +62,7 @@ parts_behind : (front numbers : List ℕ) → Free 59 front → Few numbers → 
 parts_behind front [] free few = ap parts (append-nil front) ∙ slice_split_none (λ b. b == 59) front free
 parts_behind front (n ∷ ns) free few =
     slice_split_at (λ b. b == 59) front 59 (decimal n ++ flat_map (λ n. 59 ∷ decimal n) ns) free refl
-    ∙ ap (λ ps. front ∷ ps) (parts_behind (decimal n) ns (decimal_free 59 n (λ h. omega arith) few.0) few.1)
+    ∙ ap (λ ps. front ∷ ps) (parts_behind (decimal n) ns (decimal_free 59 n (λ h. omega arith) (omega (arith, few.0))) few.1)
 
 -- the parts of a line are its letter and its numbers in decimal
 pub parts_of : (letter : ℕ) (numbers : List ℕ) → (letter == 59) ≡ false → Few numbers → parts (line_of letter numbers) ≡ (letter ∷ []) ∷ map decimal numbers

@@ -1,6 +1,7 @@
 -- Which fault a sheet is refused with. Assumes nothing.
 use Rattle.std.specs.Prelude.{◌≡◌, ℕ, ◌+◌, ◌*◌, ◌<◌, ◌≤◌, ◌⊎◌, List, [], ◌∷◌, ◌++◌, length, map, pos, Some, count_by, slice_index}
 use Rattle.units.specs.Columns.{AllBetween}
+use Rattle.units.specs.Faults.{text_fault}
 use Rattle.units.specs.Ranges.{million}
 use Rattle.units.specs.declared.fault.Fault.{Fault}
 use Rattle.sheet.specs.Checks.{first_broken, line_checks, row_total}
@@ -45,3 +46,11 @@ pub record Refuses (columns : Columns) (bytes : List ℕ) (fault : Fault) : Type
   pub split : bytes ≡ before ++ after
   pub kept : SaysSoFar columns sheet before
   pub broken : first_broken (line_checks columns sheet (spot_past before) after) ≡ Some fault
+
+-- a fault that is told at a byte of a line, under a number in a range
+pub record InText (least most : ℕ) (fault : Fault) : Type 0 where
+  pub line : ℕ
+  pub offset : ℕ
+  pub is : fault ≡ text_fault fault.number fault.layer line offset
+  pub from : least ≤ fault.number
+  pub to : fault.number ≤ most

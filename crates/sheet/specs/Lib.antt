@@ -9,5 +9,6 @@ pub mod Reading
 pub mod Readings
 pub mod Sheets
 pub mod SplitLines
+pub mod Taken
 pub mod Texts
 pub mod WorkedSheet

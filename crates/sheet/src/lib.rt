@@ -9,3 +9,4 @@ mod reader;
 pub mod reading;
 mod search;
 pub mod spot;
+pub mod table;

@@ -1,13 +1,11 @@
 // Reads a sheet from standard input and prints the reserves of an endowment on its basis, in every year and state.
 #![tactic(auto)]
 
-mod taken;
-
 use basis::Basis;
 use basis::table::TransitionTable;
 use plan::endowment::Endowment;
+use sheet::table::read_table;
 use std::io::Read;
-use taken::table_of;
 use units::francs::Francs;
 use units::premium::Premium;
 use valuation::pricing::least_premium;
@@ -60,6 +58,6 @@ fn print_reserves(rt: &HostRuntime, basis: &TransitionTable) -> anyhow::Result<(
 fn main(rt: HostRuntime) -> anyhow::Result<()> {
     let mut bytes = Vec::new(rt.alloc());
     rt.stdin().read_to_end(&mut bytes)?;
-    let basis = table_of(rt.alloc(), &bytes)?;
+    let (basis, _) = read_table(rt.alloc(), &bytes)?;
     print_reserves(&rt, &basis)
 }

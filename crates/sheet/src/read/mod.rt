@@ -1,7 +1,7 @@
 // Reading a sheet into columns.
-ghost use Rattle.std.specs.Prelude.{◌≡◌, ℕ, List, MatchResult, IsOkAnd, IfOk, Err};
+ghost use Rattle.std.specs.Prelude.{◌≡◌, ℕ, List, MatchResult, IsOkAnd, IfOk, IfErr, Err};
 ghost use Rattle.units.specs.declared.fault.Fault.{Fault};
-ghost use Rattle.sheet.specs.Faults.{Refuses};
+ghost use Rattle.sheet.specs.Faults.{Refuses, InText};
 ghost use Rattle.sheet.specs.Fields.{bytes_of};
 ghost use Rattle.sheet.specs.Lines.{start};
 ghost use Rattle.sheet.specs.Readers.{held};
@@ -48,6 +48,7 @@ pub fn read<'a>(
     ensures answer { MatchResult result (λ reading. (s : Sheet) × IsRead bytes.now factors.old shares.old factors.new shares.new reading s) (λ fault. Refuses (lengths factors.old shares.old) bytes.now fault × (factors.new ≡ factors.old) × (shares.new ≡ shares.old)) }
     ensures every_sheet { (s : Sheet) (rest : List ℕ) → IsSheet (lengths factors.old shares.old) bytes.now s rest → IsOkAnd result (λ reading. (bytes_of reading.rest ≡ rest) × IsRead bytes.now factors.old shares.old factors.new shares.new reading s) }
     ensures every_fault { (fault : Fault) → Refuses (lengths factors.old shares.old) bytes.now fault → result ≡ Err fault }
+    ensures told { IfErr result (λ fault. InText 2 8 fault) }
     ensures worked { text_of (basis_of worked_sheet) ≡ worked_text }
 {
     let columns = Columns {

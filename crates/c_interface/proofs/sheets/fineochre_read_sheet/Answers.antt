@@ -3,7 +3,6 @@ use Rattle.units.specs.declared.fault.Fault.{Fault}
 use Rattle.units.specs.declared.fault.Place.{Place}
 use Rattle.sheet.specs.Fields.{bytes_of}
 use Rattle.c_interface.specs.SheetOutcomes.{report_at, sheet_read, sheet_refused}
-use Rattle.c_interface.proofs.SheetFaults.{refused_in_text}
 use Rattle.c_interface.proofs.sheets.fineochre_read_sheet.Goals as goal
 
 -- a fault with another place
@@ -21,23 +20,23 @@ returns-in-Ok-clause-every_fault c = λ fault refuses. let refused = c.in-Ok.ens
 pub returns-in-Text-clause-answer : goal.returns-in-Text-clause-answer
 returns-in-Text-clause-answer c =
     let refused = c.in-Err.ensures.answer in
-    let text = refused_in_text c.args.factors.now c.args.shares.now c.args.bytes.now c.in-Err.fault refused.0 in
-    sheet_refused c.in-Err.fault (record { refuses = refused.0; least = text.least; most = text.most; told = ap (told_at c.in-Err.fault) c.in-Text.is; numbers_kept = (refl, refl); columns_kept = (refused.1, refused.2) })
+    let text = c.in-Err.ensures.told in
+    sheet_refused c.in-Err.fault (record { refuses = refused.0; least = text.from; most = text.to; told = ap (told_at c.in-Err.fault) c.in-Text.is; numbers_kept = (refl, refl); columns_kept = (refused.1, refused.2) })
 
 pub returns-in-Text-clause-every_fault : goal.returns-in-Text-clause-every_fault
 returns-in-Text-clause-every_fault c = λ fault refuses.
     let kept = c.in-Err.ensures.answer in
     let refused = c.in-Err.ensures.every_fault fault refuses in
     let same : c.in-Err.fault ≡ fault = grind arith in
-    let text = refused_in_text c.args.factors.now c.args.shares.now c.args.bytes.now c.in-Err.fault c.in-Err.ensures.answer.0 in
-    record { refuses = refuses; least = text.least; most = text.most; told = grind arith; numbers_kept = (refl, refl); columns_kept = (kept.1, kept.2) }
+    let text = c.in-Err.ensures.told in
+    record { refuses = refuses; least = text.from; most = text.to; told = grind arith; numbers_kept = (refl, refl); columns_kept = (kept.1, kept.2) }
 
 pub returns-in_default-clause-answer : goal.returns-in_default-clause-answer
 returns-in_default-clause-answer c =
-    let text = refused_in_text c.args.factors.now c.args.shares.now c.args.bytes.now c.in-Err.fault c.in-Err.ensures.answer.0 in
+    let text = c.in-Err.ensures.told in
     absurd (c.in_default.not-Text text.line text.offset (grind arith))
 
 pub returns-in_default-clause-every_fault : goal.returns-in_default-clause-every_fault
 returns-in_default-clause-every_fault c = λ fault refuses.
-    let text = refused_in_text c.args.factors.now c.args.shares.now c.args.bytes.now c.in-Err.fault c.in-Err.ensures.answer.0 in
+    let text = c.in-Err.ensures.told in
     absurd (c.in_default.not-Text text.line text.offset (grind arith))

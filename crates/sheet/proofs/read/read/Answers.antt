@@ -1,12 +1,13 @@
 use Rattle.std.proofs.Common.{◌≡◌, Err, pos, ap, ◌∙◌, rules, arith}
 use Rattle.std.proofs.lemmas.List.{length-map}
-use Rattle.sheet.specs.Faults.{Refuses}
+use Rattle.sheet.specs.Faults.{Refuses, InText}
 use Rattle.sheet.specs.Fields.{bytes_of}
 use Rattle.sheet.specs.Lines.{start}
 use Rattle.sheet.specs.Readers.{held}
 use Rattle.sheet.specs.Reading.{Reads, nothing_yet, ends, refused}
 use Rattle.sheet.specs.Readings.{lengths}
 use Rattle.sheet.specs.Sheets.{IsSheet}
+use Rattle.sheet.proofs.FaultPlaces.{refused_in_text}
 use Rattle.sheet.proofs.Told.{no_sheet, same_fault, no_fault, is_read, each_sheet}
 use Rattle.sheet.proofs.Sound.{reads_ended, reads_refused}
 use Rattle.sheet.proofs.Worked.{worked}
@@ -23,6 +24,13 @@ returns-in_err-rest-clause-answer c =
     let columns = lengths c.args.factors.now c.args.shares.now in
     let outcome : Reads (lengths c.args.factors.now c.args.shares.now) nothing_yet start c.args.bytes.now (refused c.in_err-rest.field-0.0) = search rules in
     let refuses : Refuses (lengths c.args.factors.now c.args.shares.now) c.args.bytes.now c.in_err-rest.field-0.0 = reads_refused _ c.args.bytes.now c.in_err-rest.field-0.0 outcome in
+    search rules
+
+pub returns-in_err-rest-clause-told : goal.returns-in_err-rest-clause-told
+returns-in_err-rest-clause-told c =
+    let columns = lengths c.args.factors.now c.args.shares.now in
+    let outcome : Reads (lengths c.args.factors.now c.args.shares.now) nothing_yet start c.args.bytes.now (refused c.in_err-rest.field-0.0) = search rules in
+    let text : InText 2 8 c.in_err-rest.field-0.0 = refused_in_text _ c.args.bytes.now c.in_err-rest.field-0.0 (reads_refused _ c.args.bytes.now c.in_err-rest.field-0.0 outcome) in
     search rules
 
 pub returns-in_err-rest-clause-every_sheet : goal.returns-in_err-rest-clause-every_sheet
