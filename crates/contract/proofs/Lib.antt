@@ -1,0 +1,11 @@
+pub mod Entries
+pub mod Interest
+pub mod Issues
+pub mod Issuing
+pub mod Keeping
+pub mod Loops
+pub mod Objections
+pub mod Promised
+pub mod Running
+pub mod Turns
+pub mod WorkedRun

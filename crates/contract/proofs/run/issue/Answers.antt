@@ -1,0 +1,45 @@
+use Rattle.std.proofs.Common.{◌≡◌, rules, pos, ap, ◌∙◌, Err, w64, to_z, of_z}
+use Rattle.contract.specs.Standings.{NotIssued}
+use Rattle.contract.proofs.Issues.{not_placed, not_deposited, not_priced}
+use Rattle.contract.proofs.Promised.{promised_in_the_mean}
+use Rattle.contract.proofs.run.issue.Goals as goal
+
+pub returns-in_err-place-clause-answer : goal.returns-in_err-place-clause-answer
+returns-in_err-place-clause-answer g c =
+    let at : c.new-proposal.result.start ≡ 0 = ap (λ x. x.start) c.new-proposal.ensures.terms in
+    let refused : NotIssued (g.B.Basis.meaning c.args.basis.now) (g.P.Plan.payments c.args.plan) c.args.start c.args.deposit c.in_err-place.field-0.0 = not_placed _ _ _ _ _ c.new-proposal.result.start at (Prim.search rules) (Prim.search rules) in
+    let outcome : c.from_residual.result ≡ Err c.in_err-place.field-0.0 = Prim.search rules in
+    rw outcome refused
+
+pub returns-in_err-deposit-clause-answer : goal.returns-in_err-deposit-clause-answer
+returns-in_err-deposit-clause-answer g c =
+    let p = g.P.Plan.payments in
+    let placed = c.in_ok-place.ensures.answer.1 in
+    let at : c.place.new.self.start ≡ c.args.start = ap (λ x. x.start) placed in
+    let refused : NotIssued (g.B.Basis.meaning c.args.basis.now) (p c.args.plan) c.args.start c.args.deposit c.in_err-deposit.field-0.0 = not_deposited _ _ _ _ _ c.place.new.self.start at (Prim.search rules) (Prim.search rules) (Prim.search rules) in
+    let outcome : c.from_residual-in_err-deposit.result ≡ Err c.in_err-deposit.field-0.0 = Prim.search rules in
+    rw outcome refused
+
+pub returns-in_err-premium-clause-answer : goal.returns-in_err-premium-clause-answer
+returns-in_err-premium-clause-answer g c =
+    let p = g.P.Plan.payments in
+    let begun = c.new-proposal.ensures.terms in
+    let placed = c.in_ok-place.ensures.answer.1 in
+    let deposited = c.in_ok-deposit.ensures.answer.1 in
+    let same : p c.deposit.new.self.plan ≡ p c.args.plan = ap (λ x. x.plan) deposited ∙ ap (λ x. x.plan) placed ∙ ap (λ x. x.plan) begun in
+    let at : c.deposit.new.self.start ≡ c.args.start = ap (λ x. x.start) deposited ∙ ap (λ x. x.start) placed in
+    let taken : pos c.deposit.new.self.deposit.ticks ≡ to_z w64 (of_z w64 c.args.deposit) = ap (λ x. x.deposit) deposited in
+    let back : to_z w64 (of_z w64 c.args.deposit) ≡ c.args.deposit = Prim.search rules in
+    let bound : pos c.deposit.new.self.deposit.ticks ≡ c.args.deposit = taken ∙ back in
+    let refused : NotIssued (g.B.Basis.meaning c.args.basis.now) (p c.args.plan) c.args.start c.args.deposit c.in_err-premium.field-0.0 = not_priced _ _ _ _ _ (p c.deposit.new.self.plan) c.deposit.new.self.start (pos c.deposit.new.self.deposit.ticks) same at bound (Prim.search rules) (Prim.search rules) (Prim.search rules) in
+    let outcome : c.from_residual-in_err-premium.result ≡ Err c.in_err-premium.field-0.0 = Prim.search rules in
+    rw outcome refused
+
+pub returns-in_err-place-clause-promise : goal.returns-in_err-place-clause-promise
+returns-in_err-place-clause-promise g c = promised_in_the_mean (g.B.Basis.meaning c.args.basis.now) (g.met.B.Basis.lawful c.args.basis.now)
+
+pub returns-in_err-deposit-clause-promise : goal.returns-in_err-deposit-clause-promise
+returns-in_err-deposit-clause-promise g c = promised_in_the_mean (g.B.Basis.meaning c.args.basis.now) (g.met.B.Basis.lawful c.args.basis.now)
+
+pub returns-in_err-premium-clause-promise : goal.returns-in_err-premium-clause-promise
+returns-in_err-premium-clause-promise g c = promised_in_the_mean (g.B.Basis.meaning c.args.basis.now) (g.met.B.Basis.lawful c.args.basis.now)

@@ -1,0 +1,10 @@
+pub mod Calls
+pub mod Cases
+pub mod Engine
+pub mod Ledgers
+pub mod Offers
+pub mod Promises
+pub mod Runs
+pub mod Standings
+pub mod Steps
+pub mod WorkedRun

@@ -1,0 +1,39 @@
+// A contract from its proposal to its end, as one case.
+use crate::answer::Left;
+use crate::contract::Contract;
+use crate::request::Request;
+use units::premium::Premium;
+
+// What is proposed, what is asked of the contract then, and whether it is left at last.
+#[derive(Drop)]
+pub struct Case<P> {
+    pub plan: P,
+    pub start: usize,
+    // In ticks.
+    pub deposit: i64,
+    pub requests: Vec<Request<P>>,
+    pub leaves: bool,
+}
+
+// A contract as it is issued, with its premium and the deposit less its reserve.
+#[derive(Drop)]
+pub struct Issued<'a, B, P> {
+    pub contract: Contract<'a, B, P>,
+    pub premium: Premium,
+    pub opening_result: i64,
+}
+
+// What comes of a case, beside the answers.
+#[derive(Drop)]
+pub struct Run<'a, B, P> {
+    pub premium: Premium,
+    // The deposit, less the reserve at issue.
+    pub opening_result: i64,
+    pub end: End<'a, B, P>,
+}
+
+#[derive(Drop)]
+pub enum End<'a, B, P> {
+    Stands(Contract<'a, B, P>),
+    Left(Left),
+}

@@ -1,0 +1,41 @@
+// Altering the plan.
+ghost use Rattle.std.specs.Prelude.{◌≡◌, ◌≤ℤ◌, IfOk, OnErr};
+ghost use Rattle.valuation.specs.Means.{mean};
+ghost use Rattle.contract.specs.Engine.{standing, Enters, altering_said};
+ghost use Rattle.contract.specs.Ledgers.{Alter};
+ghost use Rattle.contract.specs.Promises.{Promise};
+ghost use Rattle.contract.specs.Standings.{altered};
+
+use super::{Contract, LAST_NUMBER};
+use crate::answer::Altered;
+use basis::Basis;
+use plan::Plan;
+use units::fault::Fault;
+use units::rule::Rule;
+use valuation::pricing::least_premium;
+
+impl<'a, B: Basis, P: Plan + Drop> Contract<'a, B, P> {
+    // Goes on under a new plan, at the least premium that the reserve covers.
+    pub fn alter(&mut self, plan: P) -> Result<Altered, Fault>
+        ensures entry { Enters (B.meaning self.old.basis.now) (standing P.payments self.old) (Alter (P.payments plan)) (altering_said result) (standing P.payments self.new) }
+        ensures alters { IfOk result (λ k. standing P.payments self.new ≡ altered (standing P.payments self.old) (P.payments plan) k.premium.ticks) }
+        ensures basis { self.new.basis ≡ self.old.basis }
+        ensures unchanged { OnErr result (self.new ≡ self.old) }
+        ensures promise { Promise (B.meaning self.old.basis.now) ◌≤ℤ◌ mean }
+    {
+        let before = self.reserve();
+        let premium = least_premium(self.basis, &plan, self.state, self.year, before)?;
+        if self.number >= LAST_NUMBER {
+            return Err(self.fault(Rule::NumberLeft));
+        }
+        self.plan = plan;
+        self.premium = premium;
+        self.number += 1;
+        let result = before - self.reserve();
+        Ok(Altered {
+            number: self.number,
+            premium,
+            result,
+        })
+    }
+}

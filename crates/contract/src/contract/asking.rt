@@ -1,0 +1,76 @@
+// The questions to a contract, which leave it as it is.
+ghost use Rattle.std.specs.Prelude.{◌≡◌, ◌≤ℤ◌, length, OnErr};
+ghost use Rattle.units.specs.Faults.{entry_fault};
+ghost use Rattle.units.specs.Near.{Within};
+ghost use Rattle.units.specs.Rules.{rule_number, rule_layer};
+ghost use Rattle.valuation.specs.Figures.{figure};
+ghost use Rattle.valuation.specs.Means.{mean};
+ghost use Rattle.valuation.specs.SpanOperations.{span, EndByEnd};
+ghost use Rattle.contract.specs.Calls.{Turns};
+ghost use Rattle.contract.specs.Engine.{standing, Enters, course_said};
+ghost use Rattle.contract.specs.Ledgers.{AskReserve, AskSpan, AskCourse, IsWorth, LiesWithin};
+ghost use Rattle.contract.specs.Promises.{Promise};
+ghost use Rattle.contract.specs.Runs.{AskFigure, HasFigure, figure_at};
+ghost use Rattle.contract.specs.Standings.{reserve_at};
+
+use super::Contract;
+use basis::Basis;
+use plan::Plan;
+use units::fault::Fault;
+use units::rule::Rule;
+use valuation::Valuation;
+use valuation::course::course;
+use valuation::figure::figure;
+use valuation::reserve::reserve;
+use valuation::span::ends::Ends;
+use valuation::span::span;
+
+impl<'a, B: Basis, P: Plan> Contract<'a, B, P> {
+    // The breach of a rule where the contract stands.
+    pub(super) fn fault(&self, rule: Rule) -> Fault
+        ensures { result ≡ entry_fault (rule_number rule) (rule_layer rule) self.now.year self.now.state }
+    {
+        Fault::breach(rule, self.year, self.state)
+    }
+
+    // The reserve where the contract stands.
+    pub fn reserve(&self) -> i64
+        ensures entry { Enters (B.meaning self.now.basis.now) (standing P.payments self.now) AskReserve (IsWorth result) (standing P.payments self.now) }
+        ensures value { result ≡ reserve_at (B.meaning self.now.basis.now) (standing P.payments self.now) }
+        ensures range { Within 5000000000000 result }
+        ensures promise { Promise (B.meaning self.now.basis.now) ◌≤ℤ◌ mean }
+    {
+        reserve(self.basis, &self.plan, self.premium, self.state, self.year)
+    }
+
+    // The least and the most that it can still come to.
+    pub fn span(&self) -> Ends
+        ensures entry { Enters (B.meaning self.now.basis.now) (standing P.payments self.now) AskSpan (LiesWithin result) (standing P.payments self.now) }
+        ensures promise { Promise (B.meaning self.now.basis.now) EndByEnd span }
+    {
+        span(self.basis, &self.plan, self.premium, self.state, self.year)
+    }
+
+    // What it is valued at in any valuation.
+    pub fn figure<V: Valuation>(&self, valuation: &V) -> V::Figure
+        ensures turn { Turns (V.operations valuation.now) (B.meaning self.now.basis.now) (standing P.payments self.now) AskFigure (HasFigure result) (standing P.payments self.now) }
+        ensures value { result ≡ figure_at (V.operations valuation.now) (B.meaning self.now.basis.now) (standing P.payments self.now) }
+        ensures promise { Promise (B.meaning self.now.basis.now) V.order (V.operations valuation.now) }
+    {
+        let (state, year) = (self.state, self.year);
+        figure(valuation, self.basis, &self.plan, self.premium, state, year)
+    }
+
+    // Writes the course from the contract's year on into the front of the column.
+    pub fn course(&self, column: &mut [i64]) -> Result<(), Fault>
+        ensures entry { Enters (B.meaning self.now.basis.now) (standing P.payments self.now) (AskCourse column.old) (course_said result column.new) (standing P.payments self.now) }
+        ensures unchanged { OnErr result (column.new ≡ column.old) }
+        ensures length { length column.new ≡ length column.old }
+        ensures promise { Promise (B.meaning self.now.basis.now) ◌≤ℤ◌ mean }
+    {
+        match course(self.basis, &self.plan, self.premium, self.year, column) {
+            Ok(()) => Ok(()),
+            Err(_) => Err(self.fault(Rule::Course)),
+        }
+    }
+}
