@@ -1,0 +1,10 @@
+pub mod Forms
+pub mod Made
+pub mod OneAnswer
+pub mod Said
+pub mod Serving
+pub mod Sittings
+pub mod Told
+pub mod Whole
+pub mod Worked
+pub mod WorkedInput

@@ -1,0 +1,9 @@
+-- An input, and its answer. Assumes nothing.
+use Rattle.std.specs.Prelude.{List, codes, ℕ}
+
+-- a sheet of two states and two years, and the commands on a contract from its issue until it is left
+abbrev pub worked_input : List ℕ
+worked_input = codes "B;2;2\nD;0;900000\nT;0;0;0;900000\nT;0;0;1;100000\nT;0;1;1;1000000\nD;1;900000\nT;1;0;0;800000\nT;1;0;1;200000\nT;1;1;1;1000000\nE\nQ;1000000;2;2;0\nC;0;120000\nC;1;-10000\nC;1;0\nL\n"
+
+abbrev pub worked_answer : List ℕ
+worked_answer = codes "issue;452487;-1;1\nclose;1;0;4022;55249;447513\nclose;2;1;-109000;0;0\nrefused;16;14;160\nleave;0;0\n"

@@ -1,0 +1,7 @@
+// The desk: what it is asked for, line by line, and what it answers.
+#![tactic(auto)]
+
+pub mod answer;
+pub mod command;
+mod held;
+pub mod reply;
