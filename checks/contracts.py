@@ -3,7 +3,7 @@
 
 Prints what the program `contracts` has to write. The books have to balance after every call.
 """
-from rules import LIMIT, MILLION, Contract, Refusal, francs
+from rules import LIMIT, Contract, Refusal, disability, francs
 
 YEARS = 5
 FACTORS = [970_874] * YEARS
@@ -13,12 +13,7 @@ DEPOSIT = 5_000_000
 def year(t):
     """Rates that change evenly from year to year."""
     disabled, dead, recovered = 9_000 + 1_000 * t, 4_000 + 500 * t, 30_000 - 4_000 * t
-    died = dead + 10_000
-    return [
-        [MILLION - disabled - dead, disabled, dead],
-        [recovered, MILLION - recovered - died, died],
-        [0, 0, MILLION],
-    ]
+    return disability(disabled, dead, recovered, dead + 10_000)
 
 
 SHARES = [year(t) for t in range(YEARS)]

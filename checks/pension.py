@@ -7,7 +7,7 @@ and the least premiums in whole Rappen at which the reserve at issue is not abov
 import sys
 from fractions import Fraction
 
-from rules import MILLION, francs, reserves
+from rules import MILLION, disability, francs, reserves
 
 YEARS = 10
 FACTORS = [966_184] * YEARS
@@ -20,12 +20,7 @@ STATES = ("active", "disabled", "dead")
 def year(t):
     """Rates that change evenly from year to year."""
     disabled, dead, recovered = 3_400 + 450 * t, 1_500 + 290 * t, 50_000 - 2_500 * t
-    died = dead + 8_000
-    return [
-        [MILLION - disabled - dead, disabled, dead],
-        [recovered, MILLION - recovered - died, died],
-        [0, 0, MILLION],
-    ]
+    return disability(disabled, dead, recovered, dead + 8_000)
 
 
 SHARES = [year(t) for t in range(YEARS)]

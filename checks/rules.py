@@ -29,6 +29,15 @@ def lives(deaths):
     return [[[MILLION - q, q], [0, MILLION]] for q in deaths]
 
 
+def disability(disabled, dead, recovered, died):
+    """The shares of the active, who become disabled or die, of the disabled, who recover or die, and of the dead."""
+    return [
+        [MILLION - disabled - dead, disabled, dead],
+        [recovered, MILLION - recovered - died, died],
+        [0, 0, MILLION],
+    ]
+
+
 def backwards(factors, shares, benefit, due, on_move, premium, join):
     """The figures of every state, a row for each year from 0 to n.
 
