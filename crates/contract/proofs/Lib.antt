@@ -1,6 +1,5 @@
 pub mod Entries
 pub mod Interest
-pub mod Issues
 pub mod Issuing
 pub mod Keeping
 pub mod Loops

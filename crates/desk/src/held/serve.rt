@@ -58,7 +58,7 @@ impl<'a> Held<'a> {
         let year = self.year;
         self.year += 1;
         Ok(Reply::Closed {
-            number: u64::from(number),
+            number,
             year,
             interest_result,
             risk_result,
@@ -77,7 +77,7 @@ impl<'a> Held<'a> {
             result,
         } = self.contract.alter(plan)?;
         Ok(Reply::Altered {
-            number: u64::from(number),
+            number,
             premium: premium.ticks() as i64,
             reserve: self.contract.reserve(),
             result,

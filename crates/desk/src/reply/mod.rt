@@ -17,14 +17,14 @@ pub enum Reply {
         result: i64,
     },
     Closed {
-        number: u64,
+        number: u16,
         year: usize,
         interest_result: i64,
         risk_result: i64,
         reserve: i64,
     },
     Altered {
-        number: u64,
+        number: u16,
         premium: i64,
         reserve: i64,
         result: i64,

@@ -1,6 +1,6 @@
 use Rattle.std.proofs.Common.{◌≡◌, rules, pos, ap, ◌∙◌, Err, w64, to_z, of_z}
 use Rattle.contract.specs.Standings.{NotIssued}
-use Rattle.contract.proofs.Issues.{not_placed, not_deposited, not_priced}
+use Rattle.contract.proofs.Issuing.{not_placed, not_deposited, not_priced}
 use Rattle.contract.proofs.Promised.{promised_in_the_mean}
 use Rattle.contract.proofs.run.issue.Goals as goal
 

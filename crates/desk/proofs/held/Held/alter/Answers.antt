@@ -16,7 +16,6 @@ returns-clause-does c l spot same =
     let b = transition_table c.args.self.now.contract.basis.now in
     let s = standing endowment c.args.self.now.contract in
     let t = standing endowment c.alter.new.self in
-    let number : c.from.result ≡ c.in_ok-number.field-0.number = Prim.search rules in
     let result : to_z w64 (of_z w64 c.in_ok-number.field-0.result) ≡ c.in_ok-number.field-0.result = Prim.search rules in
     let entry : Enters b s (Alter (endowment c.args.plan)) (Altered c.in_ok-number.field-0.number c.in_ok-number.field-0.premium.ticks c.in_ok-number.field-0.result) t = c.in_ok-number.ensures.entry in
-    altered_to b spot l s t same c.args.plan.sum.ticks c.args.plan.term c.args.plan.paying_years c.from.result c.in_ok-number.field-0.premium.ticks _ _ _ (rw (number, result) entry) (Prim.search rules) (Prim.search rules)
+    altered_to b spot l s t same c.args.plan.sum.ticks c.args.plan.term c.args.plan.paying_years c.in_ok-number.field-0.number c.in_ok-number.field-0.premium.ticks _ _ _ (rw result entry) (Prim.search rules) (Prim.search rules)

@@ -27,10 +27,9 @@ returns-clause-does c l spot same =
     let s = standing endowment c.args.self.now.contract in
     let t = standing endowment c.close.new.self in
     let year : c.args.self.now.year ≡ s.year = Prim.search rules in
-    let number : c.from.result ≡ c.in_ok-number.field-0.number = Prim.search rules in
     let rate : to_z w64 (of_z w64 c.args.rate) ≡ c.args.rate = Prim.search rules in
     let interest : to_z w64 (of_z w64 c.in_ok-number.field-0.interest_result) ≡ c.in_ok-number.field-0.interest_result = Prim.search rules in
     let risk : to_z w64 (of_z w64 c.in_ok-number.field-0.risk_result) ≡ c.in_ok-number.field-0.risk_result = Prim.search rules in
     let entry : Enters b s (Close c.args.end c.args.rate) (Closed c.in_ok-number.field-0.number c.in_ok-number.field-0.interest_result c.in_ok-number.field-0.risk_result) t =
     subst (λ z. Enters b s (Close c.args.end z) (Closed c.in_ok-number.field-0.number c.in_ok-number.field-0.interest_result c.in_ok-number.field-0.risk_result) t) rate c.in_ok-number.ensures.entry in
-    closed_on b spot l s t same c.args.end c.args.rate c.from.result c.args.self.now.year _ _ _ (rw (number, interest, risk) entry) year (Prim.search rules)
+    closed_on b spot l s t same c.args.end c.args.rate c.in_ok-number.field-0.number c.args.self.now.year _ _ _ (rw (interest, risk) entry) year (Prim.search rules)
