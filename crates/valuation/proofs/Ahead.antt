@@ -1,5 +1,5 @@
 -- What a year to close brings, by the sweep's figures in the mean. Assumes nothing.
-use Rattle.std.proofs.Common.{◌≡◌, ℕ, ◌+◌, ◌-◌, ◌<◌, ◌≤◌, ℤ, sym, ap, ◌∙◌, arith}
+use Rattle.std.proofs.Common.{◌≡◌, ℕ, ◌+◌, ◌-◌, ◌<◌, ◌≤◌, ℤ, ap, ◌∙◌, arith}
 use Rattle.units.specs.Near.{Within}
 use Rattle.units.specs.Ranges.{limit}
 use Rattle.units.proofs.Distances.{within_more}
@@ -7,7 +7,7 @@ use Rattle.basis.specs.Transitions.{Transitions, Lawful}
 use Rattle.plan.specs.Payments.{Payments, InRange}
 use Rattle.valuation.specs.Closings.{Brings}
 use Rattle.valuation.specs.Figures.{joined, discounted, figure}
-use Rattle.valuation.specs.Means.{mean, LawfulFigure}
+use Rattle.valuation.specs.Means.{mean}
 use Rattle.valuation.specs.Reserves.{reserve, expected_at, present_at}
 use Rattle.valuation.proofs.Agreement.{joined_is, discounted_is, figure_is, reserve_bound}
 use Rattle.valuation.proofs.Range.{reach, expected_within, present_within, reserve_within}

@@ -1,5 +1,5 @@
 -- Who pays at least as much is nowhere valued lower, in any valuation. Assumes nothing.
-use Rattle.std.proofs.Common.{◌≡◌, ℕ, zero, suc, ◌+◌, ◌-◌, ◌<◌, ◌≤◌, Bool, true, false, cond, ◌&&◌, map, nat_lt, pos, ◌≤ℤ◌, refl, ⊎_elim, arith}
+use Rattle.std.proofs.Common.{◌≡◌, ℕ, zero, suc, ◌+◌, ◌-◌, ◌<◌, ◌≤◌, Bool, true, false, cond, ◌&&◌, map, nat_lt, List, ℤ, pos, ◌≤ℤ◌, refl, ⊎_elim, arith}
 use borrow.Author.Differences.{ints}
 use Rattle.std.specs.List.{AllZip, range_with_len}
 use Rattle.std.proofs.lemmas.Bool.Decides.{nat_tests, leb_tells}
@@ -7,7 +7,7 @@ use Rattle.basis.specs.Transitions.{Transitions}
 use Rattle.plan.specs.Payments.{Payments}
 use Rattle.valuation.specs.Comparisons.{NowhereValuedLower, NeverRaisedByPremium}
 use Rattle.valuation.specs.Figures.{flow, figure_with, figure}
-use Rattle.valuation.specs.Operations.{Operations, Ordered}
+use Rattle.valuation.specs.Operations.{Operations, EndByEnd, Ordered}
 
 module _ {F : Type 0} (order : F → F → Type 0) (f g : ℕ → F) (m : ℕ) (each : (j : ℕ) → j < m → order (f j) (g j)) where
   zip_from : (a n : ℕ) → a + n ≤ m → AllZip order (map f (range_with_len a n)) (map g (range_with_len a n))
@@ -30,19 +30,19 @@ flow_keeps c less more dearer cheaper i u premiums benefits marks =
     let charge = charge_keeps (nat_lt u c.years) (less.due i u) (more.due i u) cheaper dearer (λ early. marks (grind (arith, nat_tests))) premiums in
     omega (arith, ints, charge, benefits)
 
-module _ {F : Type 0} (order : F → F → Type 0) (v : Operations F) (law : Ordered order v) (c : Transitions) where
+module _ {F : Type 0} (ends : F → List ℤ) (v : Operations F) (law : Ordered ends v) (c : Transitions) where
   -- flows and move benefits are compared in states below m, of which the basis has no more, from year t on
   module _ (less more : Payments) (dearer cheaper m t : ℕ) (states : c.states ≤ m)
       (flows : (i u : ℕ) → i < m → t ≤ u → u ≤ c.years → flow c less dearer i u ≤ℤ flow c more cheaper i u)
       (paid : (i j u : ℕ) → i < m → j < c.states → t ≤ u → u < c.years → less.move_benefit i j u ≤ more.move_benefit i j u) where
-    figure_with_keeps : (k i u : ℕ) → i < m → t ≤ u → u + k ≡ c.years → order (figure_with v c less dearer k i u) (figure_with v c more cheaper k i u)
+    figure_with_keeps : (k i u : ℕ) → i < m → t ≤ u → u + k ≡ c.years → EndByEnd ends (figure_with v c less dearer k i u) (figure_with v c more cheaper k i u)
     figure_with_keeps zero i u inside l e = law.make_keeps _ _ (flows i u inside l (omega arith))
     figure_with_keeps (suc k) i u inside l e =
-        let next : (j : ℕ) → j < c.states → order (v.add (figure_with v c less dearer k j (u + 1)) (pos (less.move_benefit i j u))) (v.add (figure_with v c more cheaper k j (u + 1)) (pos (more.move_benefit i j u))) = λ j below.
+        let next : (j : ℕ) → j < c.states → EndByEnd ends (v.add (figure_with v c less dearer k j (u + 1)) (pos (less.move_benefit i j u))) (v.add (figure_with v c more cheaper k j (u + 1)) (pos (more.move_benefit i j u))) = λ j below.
         law.add_keeps _ _ _ _ (figure_with_keeps k j (u + 1) (omega arith) (omega arith) (omega arith)) (omega (arith, ints, paid i j u inside below l (omega arith))) in
-        law.add_keeps _ _ _ _ (law.discount_keeps _ _ _ (law.join_keeps i _ _ _ (zip_below order _ _ c.states next))) (flows i u inside l (omega arith))
+        law.add_keeps _ _ _ _ (law.discount_keeps _ _ _ (law.join_keeps i _ _ _ (zip_below (EndByEnd ends) _ _ c.states next))) (flows i u inside l (omega arith))
 
-  pub nowhere_valued_lower : NowhereValuedLower order c (figure v c)
+  pub nowhere_valued_lower : NowhereValuedLower ends c (figure v c)
   nowhere_valued_lower t less dearer more cheaper pays i u inside l early =
       figure_with_keeps less more dearer cheaper c.states t (omega arith)
       (λ i u inside l early. flow_keeps c less more dearer cheaper i u pays.premiums (pays.benefits i u inside l early) (pays.marks i u inside l))
@@ -52,7 +52,7 @@ module _ {F : Type 0} (order : F → F → Type 0) (v : Operations F) (law : Ord
   flow_falls : (p : Payments) (lower higher i t : ℕ) → lower ≤ higher → flow c p higher i t ≤ℤ flow c p lower i t
   flow_falls p lower higher i t l = flow_keeps c p p higher lower i t l (omega arith) (λ early. refl)
 
-  pub never_raised_by_premium : NeverRaisedByPremium order c (figure v c)
+  pub never_raised_by_premium : NeverRaisedByPremium ends c (figure v c)
   never_raised_by_premium p lower higher l i t = ⊎_elim
       (λ early.
       figure_with_keeps p p higher lower (suc (i + c.states)) t (omega arith)

@@ -9,11 +9,11 @@ use Rattle.valuation.specs.declared.span.ends.Ends.{Ends}
 use Rattle.valuation.specs.Comparisons.{NowhereValuedLower, NeverRaisedByPremium}
 use Rattle.valuation.specs.Extremes.{smallest, largest}
 use Rattle.valuation.specs.Figures.{flow, figure_before, figure_with, figure}
-use Rattle.valuation.specs.Means.{rounded_mean, rounded_discount, products}
-use Rattle.valuation.specs.Operations.{Operations, Ordered}
+use Rattle.valuation.specs.Means.{rounded_mean, rounded_discount, mean_ends, products}
+use Rattle.valuation.specs.Operations.{Operations, EndByEnd, Ordered}
 use Rattle.valuation.specs.Orders.{rounded_mean_keeps, rounded_discount_keeps}
 use Rattle.valuation.specs.Reserves.{reserve_with, reserve}
-use Rattle.valuation.specs.SpanOperations.{possible, hull, EndByEnd}
+use Rattle.valuation.specs.SpanOperations.{possible, hull, span_ends}
 use Rattle.valuation.specs.SpanOrders.{hull_keeps, possible_keeps}
 use Rattle.valuation.specs.Spans.{ends}
 use Rattle.valuation.proofs.Order.{nowhere_valued_lower, never_raised_by_premium}
@@ -37,20 +37,20 @@ whole_mean = record {
   discount = λ factor x. rounded_discount (pos factor *ℤ x);
 }
 
-products_keeps : (row : List ℕ) (xs ys : List ℤ) → AllZip ◌≤ℤ◌ xs ys → products row xs ≤ℤ products row ys
+products_keeps : (row : List ℕ) (xs ys : List ℤ) → AllZip (EndByEnd mean_ends) xs ys → products row xs ≤ℤ products row ys
 products_keeps [] xs ys k = omega (arith, ints)
 products_keeps (p ∷ ps) [] [] k = omega (arith, ints)
 products_keeps (p ∷ ps) [] (y ∷ ys) k = absurd k
 products_keeps (p ∷ ps) (x ∷ xs) [] k = absurd k
-products_keeps (p ∷ ps) (x ∷ xs) (y ∷ ys) k = omega (arith, ints, times_le p x y k.0, products_keeps ps xs ys k.1)
+products_keeps (p ∷ ps) (x ∷ xs) (y ∷ ys) k = omega (arith, ints, times_le p x y k.0.0, products_keeps ps xs ys k.1)
 
-whole_mean_ordered : Ordered ◌≤ℤ◌ whole_mean
+whole_mean_ordered : Ordered mean_ends whole_mean
 unfolding discount
 whole_mean_ordered = record {
-  make_keeps = λ a b h. h;
-  add_keeps = λ x y a b h k. omega (arith, ints, h, k);
-  join_keeps = λ i row xs ys h. rounded_mean_keeps _ _ (products_keeps row xs ys h);
-  discount_keeps = discount_keeps;
+  make_keeps = λ a b h. (h, tt);
+  add_keeps = λ x y a b h k. (omega (arith, ints, h.0, k), tt);
+  join_keeps = λ i row xs ys h. (rounded_mean_keeps _ _ (products_keeps row xs ys h), tt);
+  discount_keeps = λ factor x y h. (discount_keeps factor x y h.0, tt);
 }
 
 module _ (c : Transitions) (p : Payments) (premium : ℕ) where
@@ -71,13 +71,13 @@ whole_span = record {
   discount = λ factor x. record { least = rounded_discount (pos factor *ℤ x.least); greatest = rounded_discount (pos factor *ℤ x.greatest) };
 }
 
-whole_span_ordered : Ordered EndByEnd whole_span
+whole_span_ordered : Ordered span_ends whole_span
 unfolding discount
 whole_span_ordered = record {
-  make_keeps = λ a b h. record { least = h; greatest = h };
-  add_keeps = λ x y a b h k. record { least = omega (arith, ints, h.least, k); greatest = omega (arith, ints, h.greatest, k) };
-  join_keeps = λ i row xs ys h. hull_keeps _ _ (possible_keeps EndByEnd row xs ys h);
-  discount_keeps = λ factor x y h. record { least = discount_keeps factor x.least y.least h.least; greatest = discount_keeps factor x.greatest y.greatest h.greatest };
+  make_keeps = λ a b h. (h, (h, tt));
+  add_keeps = λ x y a b h k. (omega (arith, ints, h.0, k), (omega (arith, ints, h.1.0, k), tt));
+  join_keeps = λ i row xs ys h. hull_keeps _ _ (possible_keeps (EndByEnd span_ends) row xs ys h);
+  discount_keeps = λ factor x y h. (discount_keeps factor x.least y.least h.0, (discount_keeps factor x.greatest y.greatest h.1.0, tt));
 }
 
 module _ (c : Transitions) (p : Payments) (premium : ℕ) where
@@ -103,14 +103,14 @@ module _ (c : Transitions) where
   spans_same : (λ (p : Payments) (premium i t : ℕ). figure whole_span c p premium i t) ≡ ends c
   spans_same = λ u p premium i t. span_with_is c p premium (c.years - t) i t u
 
-  pub reserve_nowhere_lower : NowhereValuedLower ◌≤ℤ◌ c (reserve c)
-  reserve_nowhere_lower = subst (NowhereValuedLower ◌≤ℤ◌ c) reserves_same (nowhere_valued_lower ◌≤ℤ◌ whole_mean whole_mean_ordered c)
+  pub reserve_nowhere_lower : NowhereValuedLower mean_ends c (reserve c)
+  reserve_nowhere_lower = subst (NowhereValuedLower mean_ends c) reserves_same (nowhere_valued_lower mean_ends whole_mean whole_mean_ordered c)
 
-  pub reserve_never_raised : NeverRaisedByPremium ◌≤ℤ◌ c (reserve c)
-  reserve_never_raised = subst (NeverRaisedByPremium ◌≤ℤ◌ c) reserves_same (never_raised_by_premium ◌≤ℤ◌ whole_mean whole_mean_ordered c)
+  pub reserve_never_raised : NeverRaisedByPremium mean_ends c (reserve c)
+  reserve_never_raised = subst (NeverRaisedByPremium mean_ends c) reserves_same (never_raised_by_premium mean_ends whole_mean whole_mean_ordered c)
 
-  pub span_nowhere_lower : NowhereValuedLower EndByEnd c (ends c)
-  span_nowhere_lower = subst (NowhereValuedLower EndByEnd c) spans_same (nowhere_valued_lower EndByEnd whole_span whole_span_ordered c)
+  pub span_nowhere_lower : NowhereValuedLower span_ends c (ends c)
+  span_nowhere_lower = subst (NowhereValuedLower span_ends c) spans_same (nowhere_valued_lower span_ends whole_span whole_span_ordered c)
 
-  pub span_never_raised : NeverRaisedByPremium EndByEnd c (ends c)
-  span_never_raised = subst (NeverRaisedByPremium EndByEnd c) spans_same (never_raised_by_premium EndByEnd whole_span whole_span_ordered c)
+  pub span_never_raised : NeverRaisedByPremium span_ends c (ends c)
+  span_never_raised = subst (NeverRaisedByPremium span_ends c) spans_same (never_raised_by_premium span_ends whole_span whole_span_ordered c)

@@ -11,7 +11,7 @@ use Rattle.valuation.proofs.Plain.{reserve_never_raised}
 -- where a premium does not suffice, no lower one does
 pub none_up_to : (c : Transitions) (p : Payments) (i t : ℕ) (bound : ℤ) (premium : ℕ) → (Suffices c p i t bound premium → ⊥) → (lower : ℕ) → lower < premium + 1 → Suffices c p i t bound lower → ⊥
 none_up_to c p i t bound premium not lower l suffices =
-    let falls = reserve_never_raised c p lower premium (omega (arith, l)) i t in
+    let falls = (reserve_never_raised c p lower premium (omega (arith, l)) i t).0 in
     not (omega (arith, ints, falls, suffices))
 
 -- what a test says that fails

@@ -28,6 +28,10 @@ mean = record {
   discount = λ factor x. rounded_discount (saturate_to_bits 63 (pos factor *ℤ x));
 }
 
+-- a figure is its one end
+abbrev pub mean_ends : ℤ → List ℤ
+mean_ends x = x ∷ []
+
 -- ---- where every answer is fixed; beyond, answers are free but keep order
 
 abbrev pub LawfulFigure : ℤ → Type 0

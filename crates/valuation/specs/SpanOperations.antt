@@ -1,5 +1,5 @@
 -- The span as a valuation: figures are pairs of ends, and a join goes over what follows moves that have a share. Assumes nothing.
-use Rattle.std.specs.Prelude.{ℕ, cond, nat_lt, List, [], ◌∷◌, map, ◌≤ℤ◌}
+use Rattle.std.specs.Prelude.{ℕ, cond, nat_lt, List, [], ◌∷◌, map, ℤ}
 use Rattle.valuation.specs.declared.span.ends.Ends.{Ends}
 use Rattle.valuation.specs.Extremes.{smallest, largest}
 use Rattle.valuation.specs.Means.{mean, LawfulFigure}
@@ -24,10 +24,8 @@ span = record {
   discount = λ factor x. record { least = mean.discount factor x.least; greatest = mean.discount factor x.greatest };
 }
 
--- end by end
-pub record EndByEnd (x y : Ends) : Type 0 where
-  pub least : x.least ≤ℤ y.least
-  pub greatest : x.greatest ≤ℤ y.greatest
+abbrev pub span_ends : Ends → List ℤ
+span_ends x = x.least ∷ x.greatest ∷ []
 
 -- where every answer is fixed
 pub record LawfulEnds (x : Ends) : Type 0 where

@@ -1,10 +1,10 @@
 // Valuations: what a contract is worth in each state and year, by one backward sweep over a basis and a plan.
 #![tactic(auto)]
 
-ghost use Rattle.std.specs.Prelude.{◌≡◌, ◌*◌, ◌^◌, ◌<◌, get_or, length, pos};
+ghost use Rattle.std.specs.Prelude.{◌≡◌, ◌*◌, ◌^◌, ◌<◌, List, get_or, length, ℤ, pos};
 ghost use Rattle.std.specs.Mem.{type_size};
 ghost use Rattle.valuation.specs.Figures.{joined};
-ghost use Rattle.valuation.specs.Operations.{Operations, Ordered};
+ghost use Rattle.valuation.specs.Operations.{Operations, AreEnds, Ordered};
 
 pub mod closing;
 pub mod course;
@@ -32,7 +32,8 @@ pub trait Valuation {
 
     ghost operations: { Self → Operations Self.Figure };
 
-    ghost order: { Self.Figure → Self.Figure → Type 0 };
+    // The ends of a figure, which alone order figures.
+    ghost ends: { Self.Figure → List ℤ };
 
     // The figure of an amount.
     fn make(&self, amount: i64) -> Self::Figure
@@ -73,7 +74,9 @@ pub trait Valuation {
     fn discount(&self, factor: u32, figure: Self::Figure) -> Self::Figure
         ensures { result ≡ (operations self.now).discount factor figure };
 
-    ghost ordered: { (s : Self) → Ordered order (operations s) };
+    ghost told_by_ends: { AreEnds ends };
+
+    ghost ordered: { (s : Self) → Ordered ends (operations s) };
 
     // As many figures as a basis can have states fit in memory.
     ghost fits: { 8 * type_size Self.Figure.row < 2 ^ 63 };

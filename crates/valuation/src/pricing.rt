@@ -1,6 +1,7 @@
 // The least premium of any basis and plan.
-ghost use Rattle.std.specs.Prelude.{MatchResult, ◌≤ℤ◌};
+ghost use Rattle.std.specs.Prelude.{MatchResult};
 ghost use Rattle.valuation.specs.Comparisons.{NeverRaisedByPremium};
+ghost use Rattle.valuation.specs.Means.{mean_ends};
 ghost use Rattle.valuation.specs.Premiums.{LeastPremium, NoPremium};
 ghost use Rattle.valuation.specs.Reserves.{reserve};
 
@@ -25,7 +26,7 @@ pub fn least_premium<B: Basis, P: Plan>(
     bound: i64,
 ) -> Result<Premium, Fault>
     ensures least { MatchResult result (λ premium. LeastPremium (B.meaning basis.now) (P.payments plan.now) state year bound premium.ticks) (λ fault. NoPremium (B.meaning basis.now) (P.payments plan.now) state year bound fault) }
-    ensures never_raised_by_premium { NeverRaisedByPremium ◌≤ℤ◌ (B.meaning basis.now) (reserve (B.meaning basis.now)) }
+    ensures never_raised_by_premium { NeverRaisedByPremium mean_ends (B.meaning basis.now) (reserve (B.meaning basis.now)) }
 {
     let mut least = Err(Fault::breach(Rule::Premium, year, state));
     let mut low = 0;

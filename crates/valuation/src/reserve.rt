@@ -1,8 +1,9 @@
 // The reserve of any basis and plan.
-ghost use Rattle.std.specs.Prelude.{◌≡◌, ◌<◌, ◌≤◌, ◌≤ℤ◌};
+ghost use Rattle.std.specs.Prelude.{◌≡◌, ◌<◌, ◌≤◌};
 ghost use Rattle.units.specs.Near.{Within};
 ghost use Rattle.valuation.specs.Comparisons.{NowhereValuedLower, NeverRaisedByPremium};
 ghost use Rattle.valuation.specs.Exact.{NearExact};
+ghost use Rattle.valuation.specs.Means.{mean_ends};
 ghost use Rattle.valuation.specs.Reserves.{reserve};
 ghost use Rattle.valuation.specs.WorkedCase.{WorkedFigures};
 
@@ -24,8 +25,8 @@ pub fn reserve<B: Basis, P: Plan>(
     ensures value { result ≡ reserve (B.meaning basis.now) (P.payments plan.now) premium.ticks state year }
     ensures range { Within 5000000000000 result }
     ensures near_exact { state < (B.meaning basis.now).states → year ≤ (B.meaning basis.now).years → NearExact (B.meaning basis.now) (P.payments plan.now) premium.ticks state year result }
-    ensures nowhere_valued_lower { NowhereValuedLower ◌≤ℤ◌ (B.meaning basis.now) (reserve (B.meaning basis.now)) }
-    ensures never_raised_by_premium { NeverRaisedByPremium ◌≤ℤ◌ (B.meaning basis.now) (reserve (B.meaning basis.now)) }
+    ensures nowhere_valued_lower { NowhereValuedLower mean_ends (B.meaning basis.now) (reserve (B.meaning basis.now)) }
+    ensures never_raised_by_premium { NeverRaisedByPremium mean_ends (B.meaning basis.now) (reserve (B.meaning basis.now)) }
     ensures worked_figures { WorkedFigures }
 {
     figure(&Mean, basis, plan, premium, state, year)

@@ -1,10 +1,10 @@
 // The mean: figures are ticks, and a join is the mean of what follows.
-ghost use Rattle.std.specs.Prelude.{◌≡◌, ◌≤◌, pos, ◌+ℤ◌, ◌*ℤ◌, ◌≤ℤ◌, ◌↔◌, IsTrue};
+ghost use Rattle.std.specs.Prelude.{◌≡◌, ◌≤◌, pos, ◌+ℤ◌, ◌*ℤ◌, ◌↔◌, IsTrue};
 ghost use Rattle.std.specs.Int.{saturate_to_bits};
 ghost use Rattle.std.specs.List.{AllByRecursion};
 ghost use Rattle.units.specs.Ranges.{million};
-ghost use Rattle.valuation.specs.Means.{rounded_mean, rounded_discount, mean, LawfulFigure, LawfulRow, products};
-ghost use Rattle.valuation.specs.Orders.{mean_ordered};
+ghost use Rattle.valuation.specs.Means.{rounded_mean, rounded_discount, mean, mean_ends, LawfulFigure, LawfulRow, products};
+ghost use Rattle.valuation.specs.Orders.{mean_told_by_ends, mean_ordered};
 ghost use Rattle.std.proofs.Common.{rules};
 
 mod moves;
@@ -60,7 +60,9 @@ impl Valuation for Mean {
 
     ghost operations = { λ _. mean };
 
-    ghost order = { ◌≤ℤ◌ };
+    ghost ends = { mean_ends };
+
+    ghost told_by_ends = { mean_told_by_ends };
 
     ghost ordered = { λ s. mean_ordered };
 

@@ -3,8 +3,8 @@ ghost use Rattle.std.specs.Prelude.{◌≡◌, ◌≤◌, pos, ◌+ℤ◌, ◌*�
 ghost use Rattle.std.proofs.Common.{rules};
 ghost use Rattle.units.specs.Ranges.{million};
 ghost use Rattle.valuation.specs.Means.{rounded_discount, LawfulFigure};
-ghost use Rattle.valuation.specs.SpanOperations.{span, EndByEnd, LawfulEnds};
-ghost use Rattle.valuation.specs.SpanOrders.{span_ordered};
+ghost use Rattle.valuation.specs.SpanOperations.{span, span_ends, LawfulEnds};
+ghost use Rattle.valuation.specs.SpanOrders.{span_told_by_ends, span_ordered};
 
 use crate::Valuation;
 use crate::mean::Mean;
@@ -18,7 +18,9 @@ impl Valuation for Span {
 
     ghost operations = { λ _. span };
 
-    ghost order = { EndByEnd };
+    ghost ends = { span_ends };
+
+    ghost told_by_ends = { span_told_by_ends };
 
     ghost ordered = { λ s. span_ordered };
 
