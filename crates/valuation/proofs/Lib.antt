@@ -1,6 +1,6 @@
 pub mod Agreement
-pub mod Ahead
 pub mod Closeness
+pub mod Closings
 pub mod CourseColumns
 pub mod Courses
 pub mod Enclosure
