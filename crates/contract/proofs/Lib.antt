@@ -6,5 +6,6 @@ pub mod Loops
 pub mod Objections
 pub mod Promised
 pub mod Running
+pub mod Totals
 pub mod Turns
 pub mod WorkedRun

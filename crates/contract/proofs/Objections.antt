@@ -2,13 +2,12 @@
 use Rattle.std.proofs.Common.{◌≡◌, ℕ, suc, ◌+◌, ◌<◌, ◌≤◌, inl, inr, List, length, ℤ, pos, negsuc, ◌≤ℤ◌, ◌<ℤ◌, arith}
 use Rattle.std.proofs.lemmas.Bool.{cases_lt}
 use Rattle.std.proofs.lemmas.Int.{ints}
-use Rattle.units.specs.Ranges.{limit}
 use Rattle.basis.specs.Transitions.{Transitions}
 use Rattle.plan.specs.Payments.{Payments}
 use Rattle.valuation.specs.Courses.{course_length}
-use Rattle.valuation.specs.Premiums.{Suffices}
-use Rattle.contract.specs.Standings.{Standing, reserve_at}
-use Rattle.contract.specs.Ledgers.{Request, Close, Alter, AskReserve, AskSpan, AskCourse, Objects, no_year_left, no_such_state, rate_too_low, rate_too_high, no_such_move, no_premium, no_number_to_close, no_number_to_alter, too_short, FirstObjection, Unobjected, MayClose}
+use Rattle.contract.specs.Standings.{Standing}
+use Rattle.contract.specs.Ledgers.{Request, Close, Alter, AskReserve, AskSpan, AskCourse, Objects, no_year_left, no_such_state, rate_too_low, rate_too_high, no_such_move, no_premium, no_number_to_close, no_number_to_alter, too_short, NoPremiumWillDo, FirstObjection, Unobjected}
+use Rattle.contract.specs.Closings.{MayClose}
 
 module _ (c : Transitions) where
   pub first_once : (s : Standing) (q : Request) (k h : ℕ) → FirstObjection c s q k → FirstObjection c s q h → k ≡ h
@@ -69,10 +68,7 @@ module _ (c : Transitions) where
   may_close s end rate may = none_to_closing s end rate may.year_left may.in_basis may.rate_low may.rate_high may.may_move may.number_left
 
   -- ---- altering
-  abbrev pub NoPremium : Standing → Payments → Type 0
-  NoPremium s new = (premium : ℕ) → premium ≤ limit → Suffices c new s.state s.year (reserve_at c s) premium → ⊥
-
-  pub altering_passes : (s : Standing) (new : Payments) (number : ℕ) → (20 < number → NoPremium s new → ⊥) → (21 < number → s.number < 9999) → (lower : ℕ) → lower < number → Objects c s (Alter new) lower → ⊥
+  pub altering_passes : (s : Standing) (new : Payments) (number : ℕ) → (20 < number → NoPremiumWillDo c s new → ⊥) → (21 < number → s.number < 9999) → (lower : ℕ) → lower < number → Objects c s (Alter new) lower → ⊥
   altering_passes s new number some left _ l (no_premium x) = some l x
   altering_passes s new number some left _ l (no_number_to_alter x) = omega (arith, x, left l)
 

@@ -12,11 +12,11 @@ use Rattle.valuation.specs.Operations.{Operations}
 use Rattle.valuation.specs.Premiums.{LeastPremium, Suffices}
 use Rattle.valuation.specs.Reserves.{reserve}
 use Rattle.valuation.proofs.CourseColumns.{written_once, some_written}
-use Rattle.contract.specs.Standings.{Standing, Ledger, altered, reserve_at}
-use Rattle.contract.specs.Steps.{alteration_result, altering}
-use Rattle.contract.specs.Ledgers.{Request, Close, Alter, AskReserve, AskSpan, AskCourse, Answer, Altered, Written, refusal, no_premium, no_number_to_alter, too_short, FirstObjection, Unobjected, entered, Accepted, closed, altered_to, reserve_told, span_told, course_written, Entry, refused, accepted}
+use Rattle.contract.specs.Standings.{Standing, Ledger, reserve_at}
+use Rattle.contract.specs.Steps.{alteration}
+use Rattle.contract.specs.Ledgers.{Request, Close, Alter, AskReserve, AskSpan, AskCourse, Answer, Altered, Written, refusal, no_premium, no_number_to_alter, too_short, FirstObjection, Unobjected, NoPremiumWillDo, after_alteration, Accepted, closed, altered_to, reserve_told, span_told, course_written, Entry, refused, accepted}
 use Rattle.contract.specs.Runs.{Call, Ask, AskFigure, Reply, Told, Turn, asked, figure_told, Runs, done, more}
-use Rattle.contract.proofs.Objections.{first_once, first_no_year, first_no_state, first_rate_low, first_rate_high, first_no_move, first_no_number, none_to_closing, altering_passes, course_passes, reserve_passes, span_passes, NoPremium}
+use Rattle.contract.proofs.Objections.{first_once, first_no_year, first_no_state, first_rate_low, first_rate_high, first_no_move, first_no_number, none_to_closing, altering_passes, course_passes, reserve_passes, span_passes}
 
 -- the least number of those below n, if there is one
 module _ (A : ℕ → Type 0) (decided : (k : ℕ) → A k ⊎ (A k → ⊥)) where
@@ -55,7 +55,7 @@ module _ (c : Transitions) where
   accepted_once some l _ _ _ _ _ closed closed = (refl, refl)
   accepted_once some l _ _ _ _ _ (altered_to {new} {premium} x) (altered_to {premium = other} y) =
       let same : premium ≡ other = least_once new l.stands.state l.stands.year (reserve_at c l.stands) premium other x y in
-      (ap (λ p. Altered (l.stands.number + 1) p (alteration_result c l.stands new p)) same, ap (λ p. entered c l (altered l.stands new p) (altering c l.stands new p)) same)
+      (ap (λ p. Altered (alteration c l.stands new p)) same, ap (after_alteration c l new) same)
   accepted_once some l _ _ _ _ _ reserve_told reserve_told = (refl, refl)
   accepted_once some l _ _ _ _ _ span_told span_told = (refl, refl)
   accepted_once some l _ _ _ _ _ (course_written {old} {new} x) (course_written {new = other} y) =
@@ -93,11 +93,11 @@ module _ (c : Transitions) where
   entry_if_any l q (inl x) makes = (refusal q (entry_fault x.0 Contract l.stands.year l.stands.state), l, refused x.1)
   entry_if_any l q (inr free) makes = let made = makes free in (made.0, made.1, accepted free made.2)
 
-  alteration_entered : (l : Ledger) (new : Payments) → ((k : ℕ) × LeastPremium c new l.stands.state l.stands.year (reserve_at c l.stands) k) ⊎ NoPremium c l.stands new → (a : Answer) × (m : Ledger) × Entry c l (Alter new) a m
+  alteration_entered : (l : Ledger) (new : Payments) → ((k : ℕ) × LeastPremium c new l.stands.state l.stands.year (reserve_at c l.stands) k) ⊎ NoPremiumWillDo c l.stands new → (a : Answer) × (m : Ledger) × Entry c l (Alter new) a m
   alteration_entered l new (inr none) =
       (refusal (Alter new) (entry_fault 20 Contract l.stands.year l.stands.state), l, refused (record { stands = no_premium none; none_before = altering_passes c l.stands new 20 (omega arith) (omega arith) }))
   alteration_entered l new (inl x) =
-      let some : NoPremium c l.stands new → ⊥ = λ none. none x.0 x.1.in_range x.1.suffices in
+      let some : NoPremiumWillDo c l.stands new → ⊥ = λ none. none x.0 x.1.in_range x.1.suffices in
       elim (cases_lt l.stands.number 9999) [
         | inr u ↦ (refusal (Alter new) (entry_fault 21 Contract l.stands.year l.stands.state), l, refused (record { stands = no_number_to_alter u; none_before = altering_passes c l.stands new 21 (λ _. some) (omega arith) }))
         | inl u ↦ (_, _, accepted (λ k o. altering_passes c l.stands new (suc k) (λ _. some) (λ _. u) k (omega arith) o) (altered_to {premium = x.0} x.1))
@@ -118,21 +118,21 @@ module _ (c : Transitions) where
   entry_some l (AskCourse column) = course_entered l column
 
   module _ {F : Type 0} (v : Operations F) where
-    pub turn_some : (l : Ledger) (q : Call) → (a : Reply F) × (m : Ledger) × Turn v c l q a m
+    pub turn_some : (l : Ledger) (q : Call) → (a : Reply F) × (m : Ledger) × Turn c v l q a m
     turn_some l (Ask q) = let e = entry_some l q in (Told e.0, e.1, asked e.2)
     turn_some l AskFigure = (_, l, figure_told)
 
-    pub turn_once : 0 < c.states → (l : Ledger) (q : Call) (a b : Reply F) (m n : Ledger) → Turn v c l q a m → Turn v c l q b n → (a ≡ b) × (m ≡ n)
+    pub turn_once : 0 < c.states → (l : Ledger) (q : Call) (a b : Reply F) (m n : Ledger) → Turn c v l q a m → Turn c v l q b n → (a ≡ b) × (m ≡ n)
     turn_once some l _ _ _ m n (asked {q} {a} e) (asked {a = b} h) = let same = entry_once some l q a b m n e h in (ap Told same.0, same.1)
     turn_once some l _ _ _ _ _ figure_told figure_told = (refl, refl)
 
-    pub runs_once : 0 < c.states → (l : Ledger) (qs : List Call) (rs ss : List (Reply F)) (m n : Ledger) → Runs v c l qs rs m → Runs v c l qs ss n → (rs ≡ ss) × (m ≡ n)
+    pub runs_once : 0 < c.states → (l : Ledger) (qs : List Call) (rs ss : List (Reply F)) (m n : Ledger) → Runs c v l qs rs m → Runs c v l qs ss n → (rs ≡ ss) × (m ≡ n)
     runs_once some l _ _ _ _ _ done done = (refl, refl)
     runs_once some l _ _ _ m n (more {m = k} {q = q} {a = a} {qs = qs} {rs = rs} t r) (more {m = h} {a = b} {rs = ss} u s) =
         let here = turn_once some l q a b k h t u in
-        let later = runs_once some k qs rs ss m n r (subst (λ j. Runs v c j qs ss n) (sym here.1) s) in
+        let later = runs_once some k qs rs ss m n r (subst (λ j. Runs c v j qs ss n) (sym here.1) s) in
         (ap₂ (λ x xs. x ∷ xs) here.0 later.0, later.1)
 
-    pub runs_on : (l m n : Ledger) (qs : List Call) (rs : List (Reply F)) (q : Call) (a : Reply F) → Runs v c l qs rs m → Turn v c m q a n → Runs v c l (qs ++ q ∷ []) (rs ++ a ∷ []) n
+    pub runs_on : (l m n : Ledger) (qs : List Call) (rs : List (Reply F)) (q : Call) (a : Reply F) → Runs c v l qs rs m → Turn c v m q a n → Runs c v l (qs ++ q ∷ []) (rs ++ a ∷ []) n
     runs_on l _ n _ _ q a done t = more t done
     runs_on l m n _ _ q a (more {m = k} {qs = qs} {rs = rs} u r) t = more u (runs_on k m n qs rs q a r t)

@@ -1,10 +1,12 @@
 pub mod Calls
 pub mod Cases
-pub mod Engine
+pub mod Closings
+pub mod ContractStates
 pub mod Ledgers
-pub mod Offers
 pub mod Promises
+pub mod Proposals
 pub mod Runs
 pub mod Standings
 pub mod Steps
+pub mod Totals
 pub mod WorkedRun

@@ -54,17 +54,36 @@ posted b x carried = record {
 
 -- the deposit and all that has come in, less what was paid, is what was posted as results and what is still carried
 abbrev pub Balances : ℤ → Books → Type 0
-Balances deposit b = ((deposit +ℤ b.premiums) +ℤ b.interest) -ℤ b.benefits ≡ b.results +ℤ b.carried
+Balances deposit b =
+    ((deposit +ℤ b.premiums) +ℤ b.interest) -ℤ b.benefits ≡ b.results +ℤ b.carried
 
 -- where a contract begins, where a closing in state j leads, and where an alteration leads
 abbrev pub begun : Terms → Standing
-begun x = record { plan = x.plan; premium = x.premium; state = x.start; year = 0; number = 0 }
+begun x = record {
+  plan = x.plan;
+  premium = x.premium;
+  state = x.start;
+  year = 0;
+  number = 0;
+}
 
 abbrev pub moved : Standing → ℕ → Standing
-moved s j = record { plan = s.plan; premium = s.premium; state = j; year = s.year + 1; number = s.number + 1 }
+moved s j = record {
+  plan = s.plan;
+  premium = s.premium;
+  state = j;
+  year = s.year + 1;
+  number = s.number + 1;
+}
 
 abbrev pub altered : Standing → Payments → ℕ → Standing
-altered s new premium = record { plan = new; premium = premium; state = s.state; year = s.year; number = s.number + 1 }
+altered s new premium = record {
+  plan = new;
+  premium = premium;
+  state = s.state;
+  year = s.year;
+  number = s.number + 1;
+}
 
 module _ (c : Transitions) where
   abbrev pub reserve_at : Standing → ℤ
@@ -78,7 +97,13 @@ module _ (c : Transitions) where
   abbrev pub issued : Terms → Ledger
   issued x = record {
     stands = begun x;
-    books = record { premiums = pos 0; interest = pos 0; benefits = pos 0; results = opening_result x; carried = reserve_at (begun x) };
+    books = record {
+      premiums = pos 0;
+      interest = pos 0;
+      benefits = pos 0;
+      results = opening_result x;
+      carried = reserve_at (begun x);
+    };
   }
 
   -- what a contract may be issued on: a state of the basis, a deposit and a premium in range
@@ -91,8 +116,14 @@ module _ (c : Transitions) where
   abbrev pub IsPriced : Terms → Type 0
   IsPriced x = LeastPremium c x.plan x.start 0 x.deposit x.premium
 
-  -- why nothing is issued on a plan, in a start state and on a deposit: a proposal, which begins in state 0, is placed, then it is deposited on, then priced
+  -- why nothing is issued on a plan, in a start state and on a deposit: a proposal, which begins in state 0, is placed,
+  -- then it is deposited on, then priced
   pub data NotIssued (plan : Payments) (start : ℕ) (deposit : ℤ) : Fault → Type 0 where
     start_outside : c.states ≤ start → NotIssued plan start deposit (entry_fault 14 Contract 0 0)
-    deposit_outside : start < c.states → (WithinLimit deposit → ⊥) → NotIssued plan start deposit (entry_fault 15 Contract 0 start)
-    no_premium : start < c.states → WithinLimit deposit → ((premium : ℕ) → premium ≤ limit → Suffices c plan start 0 deposit premium → ⊥) → NotIssued plan start deposit (entry_fault 20 Contract 0 start)
+    deposit_outside :
+        start < c.states → (WithinLimit deposit → ⊥) →
+        NotIssued plan start deposit (entry_fault 15 Contract 0 start)
+    no_premium :
+        start < c.states → WithinLimit deposit →
+        ((premium : ℕ) → premium ≤ limit → Suffices c plan start 0 deposit premium → ⊥) →
+        NotIssued plan start deposit (entry_fault 20 Contract 0 start)

@@ -1,5 +1,5 @@
 -- What the steps of a contract come to: closing a year, altering and leaving. Assumes nothing.
-use Rattle.std.specs.Prelude.{ℕ, cond, ℤ, pos, ◌+ℤ◌, ◌-ℤ◌, ◌*ℤ◌}
+use Rattle.std.specs.Prelude.{ℕ, ◌+◌, cond, ℤ, pos, ◌+ℤ◌, ◌-ℤ◌, ◌*ℤ◌}
 use Rattle.std.specs.Int.{int_max}
 use Rattle.units.specs.Rounding.{nearest}
 use Rattle.basis.specs.Transitions.{Transitions}
@@ -11,9 +11,71 @@ use Rattle.contract.specs.Standings.{Standing, Ledger, Books, Posting, posted, m
 abbrev pub rounded_interest : ℤ → ℤ
 rounded_interest = nearest
 
-module _ (c : Transitions) where
-  -- ---- closing a year
+-- what is told of a year that was closed, under the number of its closing
+pub record ClosedYear : Type 0 where
+  pub number : ℕ
+  pub year : ℕ
+  -- the premium that was taken, and the benefits that were paid in the year
+  pub premium : ℕ
+  pub benefits : ℕ
+  pub interest_earned : ℤ
+  pub interest_result : ℤ
+  pub risk_result : ℤ
+  -- the reserve after it
+  pub reserve : ℤ
 
+-- what is told of an alteration, under its number: the new premium and reserve, and the result
+pub record Alteration : Type 0 where
+  pub number : ℕ
+  pub premium : ℕ
+  pub result : ℤ
+  pub reserve : ℤ
+
+-- what is told of leaving: what is paid, and the result
+pub record Leaving : Type 0 where
+  pub paid : ℤ
+  pub result : ℤ
+
+-- what these post
+abbrev pub closing_posting : ClosedYear → Posting
+closing_posting k = record {
+  premium = pos k.premium;
+  interest = k.interest_earned;
+  benefits = pos k.benefits;
+  result = k.interest_result +ℤ k.risk_result;
+}
+
+abbrev pub alteration_posting : Alteration → Posting
+alteration_posting k = record {
+  premium = pos 0;
+  interest = pos 0;
+  benefits = pos 0;
+  result = k.result;
+}
+
+abbrev pub leaving_posting : Leaving → Posting
+leaving_posting k = record {
+  premium = pos 0;
+  interest = pos 0;
+  benefits = k.paid;
+  result = k.result;
+}
+
+-- the books of a contract that has been left: nothing is carried any more
+abbrev pub books_after_leaving : Books → Leaving → Books
+books_after_leaving b k = posted b (leaving_posting k) (pos 0)
+
+-- ---- closing a year
+
+-- the premium, if it is due
+abbrev pub premium_taken : Standing → ℕ
+premium_taken s = cond (s.plan.due s.state s.year) s.premium 0
+
+-- the benefit at the start of the year, and that for the move at its end
+abbrev pub benefits_paid : Standing → ℕ → ℕ
+benefits_paid s j = s.plan.benefit s.state s.year + s.plan.move_benefit s.state j s.year
+
+module _ (c : Transitions) where
   -- E, what the moves bring in the mean, and W, what that is worth at the start of the year
   abbrev pub join : Standing → ℤ
   join s = expected_at c s.plan s.premium s.state s.year
@@ -30,14 +92,19 @@ module _ (c : Transitions) where
 
   -- what was expected of the moves, less what the move to j costs
   abbrev pub risk_result : Standing → ℕ → ℤ
-  risk_result s j = (join s -ℤ pos (s.plan.move_benefit s.state j s.year)) -ℤ reserve_at c (moved s j)
+  risk_result s j =
+      (join s -ℤ pos (s.plan.move_benefit s.state j s.year)) -ℤ reserve_at c (moved s j)
 
-  abbrev pub closing : Standing → ℕ → ℤ → Posting
-  closing s j rate = record {
-    premium = pos (cond (s.plan.due s.state s.year) s.premium 0);
-    interest = interest_earned s rate;
-    benefits = pos (s.plan.benefit s.state s.year) +ℤ pos (s.plan.move_benefit s.state j s.year);
-    result = interest_result s rate +ℤ risk_result s j;
+  abbrev pub closed_year : Standing → ℕ → ℤ → ClosedYear
+  closed_year s j rate = record {
+    number = s.number + 1;
+    year = s.year;
+    premium = premium_taken s;
+    benefits = benefits_paid s j;
+    interest_earned = interest_earned s rate;
+    interest_result = interest_result s rate;
+    risk_result = risk_result s j;
+    reserve = reserve_at c (moved s j);
   }
 
   -- ---- altering: the old reserve, less the new
@@ -45,8 +112,13 @@ module _ (c : Transitions) where
   abbrev pub alteration_result : Standing → Payments → ℕ → ℤ
   alteration_result s new premium = reserve_at c s -ℤ reserve_at c (altered s new premium)
 
-  abbrev pub altering : Standing → Payments → ℕ → Posting
-  altering s new premium = record { premium = pos 0; interest = pos 0; benefits = pos 0; result = alteration_result s new premium }
+  abbrev pub alteration : Standing → Payments → ℕ → Alteration
+  alteration s new premium = record {
+    number = s.number + 1;
+    premium = premium;
+    result = alteration_result s new premium;
+    reserve = reserve_at c (altered s new premium);
+  }
 
   -- ---- leaving: the reserve is paid if it is above nought
 
@@ -56,9 +128,5 @@ module _ (c : Transitions) where
   abbrev pub leaving_result : Standing → ℤ
   leaving_result s = reserve_at c s -ℤ payout s
 
-  abbrev pub leaving : Standing → Posting
-  leaving s = record { premium = pos 0; interest = pos 0; benefits = payout s; result = leaving_result s }
-
-  -- the books of a contract that has been left: nothing is carried any more
-  abbrev pub left : Ledger → Books
-  left l = posted l.books (leaving l.stands) (pos 0)
+  abbrev pub leaving : Standing → Leaving
+  leaving s = record { paid = payout s; result = leaving_result s }

@@ -2,6 +2,8 @@
 use crate::answer::Left;
 use crate::contract::Contract;
 use crate::request::Request;
+use basis::Basis;
+use plan::Plan;
 use units::premium::Premium;
 
 // What is proposed, what is asked of the contract then, and whether it is left at last.
@@ -17,7 +19,7 @@ pub struct Case<P> {
 
 // A contract as it is issued, with its premium and the deposit less its reserve.
 #[derive(Drop)]
-pub struct Issued<'a, B, P> {
+pub struct Issued<'a, B: Basis, P: Plan> {
     pub contract: Contract<'a, B, P>,
     pub premium: Premium,
     pub opening_result: i64,
@@ -25,7 +27,7 @@ pub struct Issued<'a, B, P> {
 
 // What comes of a case, beside the answers.
 #[derive(Drop)]
-pub struct Run<'a, B, P> {
+pub struct Run<'a, B: Basis, P: Plan> {
     pub premium: Premium,
     // The deposit, less the reserve at issue.
     pub opening_result: i64,
@@ -33,7 +35,7 @@ pub struct Run<'a, B, P> {
 }
 
 #[derive(Drop)]
-pub enum End<'a, B, P> {
+pub enum End<'a, B: Basis, P: Plan> {
     Stands(Contract<'a, B, P>),
     Left(Left),
 }

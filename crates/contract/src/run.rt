@@ -1,11 +1,9 @@
 // Running a case.
-ghost use Rattle.std.specs.Prelude.{◌≡◌, ◌+◌, ◌≤◌, ◌≤ℤ◌, vec_items, vec_len, vec_capacity, MatchResult, OnErr};
-ghost use Rattle.valuation.specs.Means.{mean};
+ghost use Rattle.std.specs.Prelude.{◌≡◌, ◌+◌, ◌≤◌, vec_items, vec_len, vec_capacity, OnErr};
+ghost use Rattle.valuation.specs.Means.{mean, mean_ends};
 ghost use Rattle.contract.specs.Calls.{Goes};
-ghost use Rattle.contract.specs.Cases.{IsIssued, IsRun, NotRun, EndsAt};
-ghost use Rattle.contract.specs.Engine.{standing};
+ghost use Rattle.contract.specs.Cases.{IssuesOn, RunsCase, Finishes};
 ghost use Rattle.contract.specs.Promises.{Promise};
-ghost use Rattle.contract.specs.Standings.{NotIssued};
 ghost use Rattle.contract.specs.WorkedRun.{WorkedRun};
 
 use crate::answer::Answer;
@@ -26,8 +24,8 @@ pub fn issue<'a, B: Basis, P: Plan + Drop>(
     start: usize,
     deposit: i64,
 ) -> Result<Issued<'a, B, P>, Fault>
-    ensures answer { MatchResult result (λ issued. IsIssued (B.meaning basis.now) P.payments basis.now (P.payments plan) start deposit issued) (λ fault. NotIssued (B.meaning basis.now) (P.payments plan) start deposit fault) }
-    ensures promise { Promise (B.meaning basis.now) ◌≤ℤ◌ mean }
+    ensures answer { IssuesOn basis.now plan start deposit result }
+    ensures promise { Promise (B.meaning basis.now) mean_ends mean }
 {
     let mut proposal = Proposal::new(basis, plan);
     proposal.place(start)?;
@@ -49,8 +47,8 @@ fn answer_all<V: Valuation, B: Basis, P: Plan + Drop>(
     answers: &mut Vec<Answer<V::Figure>>,
 )
     requires room { vec_len answers.old + vec_len requests ≤ vec_capacity answers.old }
-    ensures goes { Goes (V.operations valuation.now) (B.meaning contract.old.basis.now) P.payments (standing P.payments contract.old) (vec_items requests) (vec_items answers.old) (vec_items answers.new) (standing P.payments contract.new) }
-    ensures basis { contract.new.basis ≡ contract.old.basis }
+    ensures { Goes (V.operations valuation.now) contract.old (vec_items requests)
+        (vec_items answers.old) (vec_items answers.new) contract.new }
 {
     for request in requests {
         let answer = contract.answer(valuation, request);
@@ -60,7 +58,7 @@ fn answer_all<V: Valuation, B: Basis, P: Plan + Drop>(
 
 // The end of a contract that is left, or goes on.
 fn end_of<B: Basis, P: Plan + Drop>(contract: Contract<'_, B, P>, leaves: bool) -> End<'_, B, P>
-    ensures { EndsAt (B.meaning contract.entry.basis.now) P.payments leaves contract.entry.basis.now (standing P.payments contract.entry) result }
+    ensures { Finishes contract.entry leaves result }
 {
     if leaves {
         End::Left(contract.leave())
@@ -77,9 +75,9 @@ pub fn run<'a, V: Valuation, B: Basis, P: Plan + Drop>(
     case: Case<P>,
     answers: &mut Vec<Answer<V::Figure>>,
 ) -> Result<Run<'a, B, P>, Failure>
-    ensures answer { MatchResult result (λ run. IsRun (B.meaning basis.now) P.payments (V.operations valuation.now) basis.now case (vec_items answers.old) (vec_items answers.new) run) (λ failure. NotRun (B.meaning basis.now) P.payments case (vec_capacity answers.old) (vec_len answers.old) failure) }
+    ensures answer { RunsCase (V.operations valuation.now) basis.now case answers.old answers.new result }
     ensures unchanged { OnErr result (vec_items answers.new ≡ vec_items answers.old) }
-    ensures promise { Promise (B.meaning basis.now) V.order (V.operations valuation.now) }
+    ensures promise { Promise (B.meaning basis.now) V.ends (V.operations valuation.now) }
     ensures worked { WorkedRun }
 {
     let Case {

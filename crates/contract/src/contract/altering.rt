@@ -1,7 +1,7 @@
 // Altering the plan.
-ghost use Rattle.std.specs.Prelude.{◌≡◌, ◌≤ℤ◌, IfOk, OnErr};
-ghost use Rattle.valuation.specs.Means.{mean};
-ghost use Rattle.contract.specs.Engine.{standing, Enters, altering_said};
+ghost use Rattle.std.specs.Prelude.{◌≡◌, IfOk, OnErr};
+ghost use Rattle.valuation.specs.Means.{mean, mean_ends};
+ghost use Rattle.contract.specs.ContractStates.{basis_of, standing, Enters, altering_said};
 ghost use Rattle.contract.specs.Ledgers.{Alter};
 ghost use Rattle.contract.specs.Promises.{Promise};
 ghost use Rattle.contract.specs.Standings.{altered};
@@ -17,11 +17,11 @@ use valuation::pricing::least_premium;
 impl<'a, B: Basis, P: Plan + Drop> Contract<'a, B, P> {
     // Goes on under a new plan, at the least premium that the reserve covers.
     pub fn alter(&mut self, plan: P) -> Result<Altered, Fault>
-        ensures entry { Enters (B.meaning self.old.basis.now) (standing P.payments self.old) (Alter (P.payments plan)) (altering_said result) (standing P.payments self.new) }
-        ensures alters { IfOk result (λ k. standing P.payments self.new ≡ altered (standing P.payments self.old) (P.payments plan) k.premium.ticks) }
-        ensures basis { self.new.basis ≡ self.old.basis }
+        ensures entry { Enters self.old (Alter (P.payments plan)) (altering_said result) self.new }
+        ensures alters { IfOk result (λ k. standing self.new
+            ≡ altered (standing self.old) (P.payments plan) k.premium.ticks) }
         ensures unchanged { OnErr result (self.new ≡ self.old) }
-        ensures promise { Promise (B.meaning self.old.basis.now) ◌≤ℤ◌ mean }
+        ensures promise { Promise (basis_of self.old) mean_ends mean }
     {
         let before = self.reserve();
         let premium = least_premium(self.basis, &plan, self.state, self.year, before)?;
@@ -31,11 +31,12 @@ impl<'a, B: Basis, P: Plan + Drop> Contract<'a, B, P> {
         self.plan = plan;
         self.premium = premium;
         self.number += 1;
-        let result = before - self.reserve();
+        let reserve = self.reserve();
         Ok(Altered {
             number: self.number,
             premium,
-            result,
+            result: before - reserve,
+            reserve,
         })
     }
 }

@@ -1,7 +1,5 @@
 // Answering a request of any kind.
-ghost use Rattle.std.specs.Prelude.{◌≡◌};
 ghost use Rattle.contract.specs.Calls.{asked, said, Turns};
-ghost use Rattle.contract.specs.Engine.{standing};
 
 use super::Contract;
 use crate::answer::Answer;
@@ -17,8 +15,7 @@ impl<'a, B: Basis, P: Plan + Drop> Contract<'a, B, P> {
         valuation: &V,
         request: Request<P>,
     ) -> Answer<V::Figure>
-        ensures turn { Turns (V.operations valuation.now) (B.meaning self.old.basis.now) (standing P.payments self.old) (asked P.payments request) (said result) (standing P.payments self.new) }
-        ensures basis { self.new.basis ≡ self.old.basis }
+        ensures { Turns (V.operations valuation.now) self.old (asked P.payments request) (said result) self.new }
     {
         match request {
             Request::Close { end, rate } => match self.close(end, rate) {

@@ -1,13 +1,13 @@
 // The questions to a contract, which leave it as it is.
-ghost use Rattle.std.specs.Prelude.{◌≡◌, ◌≤ℤ◌, length, OnErr};
+ghost use Rattle.std.specs.Prelude.{◌≡◌, length, OnErr};
 ghost use Rattle.units.specs.Faults.{entry_fault};
 ghost use Rattle.units.specs.Near.{Within};
 ghost use Rattle.units.specs.Rules.{rule_number, rule_layer};
-ghost use Rattle.valuation.specs.Figures.{figure};
-ghost use Rattle.valuation.specs.Means.{mean};
-ghost use Rattle.valuation.specs.SpanOperations.{span, EndByEnd};
+ghost use Rattle.valuation.specs.Means.{mean, mean_ends};
+ghost use Rattle.valuation.specs.SpanOperations.{span, span_ends};
 ghost use Rattle.contract.specs.Calls.{Turns};
-ghost use Rattle.contract.specs.Engine.{standing, Enters, course_said};
+ghost use Rattle.contract.specs.ContractStates.{basis_of, standing, Enters, course_said};
+ghost use Rattle.contract.specs.ContractStates.{IsNearExact, EnclosesReserve};
 ghost use Rattle.contract.specs.Ledgers.{AskReserve, AskSpan, AskCourse, IsWorth, LiesWithin};
 ghost use Rattle.contract.specs.Promises.{Promise};
 ghost use Rattle.contract.specs.Runs.{AskFigure, HasFigure, figure_at};
@@ -35,27 +35,29 @@ impl<'a, B: Basis, P: Plan> Contract<'a, B, P> {
 
     // The reserve where the contract stands.
     pub fn reserve(&self) -> i64
-        ensures entry { Enters (B.meaning self.now.basis.now) (standing P.payments self.now) AskReserve (IsWorth result) (standing P.payments self.now) }
-        ensures value { result ≡ reserve_at (B.meaning self.now.basis.now) (standing P.payments self.now) }
+        ensures entry { Enters self.now AskReserve (IsWorth result) self.now }
+        ensures value { result ≡ reserve_at (basis_of self.now) (standing self.now) }
         ensures range { Within 5000000000000 result }
-        ensures promise { Promise (B.meaning self.now.basis.now) ◌≤ℤ◌ mean }
+        ensures near_exact { IsNearExact self.now result }
+        ensures promise { Promise (basis_of self.now) mean_ends mean }
     {
         reserve(self.basis, &self.plan, self.premium, self.state, self.year)
     }
 
     // The least and the most that it can still come to.
     pub fn span(&self) -> Ends
-        ensures entry { Enters (B.meaning self.now.basis.now) (standing P.payments self.now) AskSpan (LiesWithin result) (standing P.payments self.now) }
-        ensures promise { Promise (B.meaning self.now.basis.now) EndByEnd span }
+        ensures entry { Enters self.now AskSpan (LiesWithin result) self.now }
+        ensures encloses { EnclosesReserve self.now result }
+        ensures promise { Promise (basis_of self.now) span_ends span }
     {
         span(self.basis, &self.plan, self.premium, self.state, self.year)
     }
 
     // What it is valued at in any valuation.
     pub fn figure<V: Valuation>(&self, valuation: &V) -> V::Figure
-        ensures turn { Turns (V.operations valuation.now) (B.meaning self.now.basis.now) (standing P.payments self.now) AskFigure (HasFigure result) (standing P.payments self.now) }
-        ensures value { result ≡ figure_at (V.operations valuation.now) (B.meaning self.now.basis.now) (standing P.payments self.now) }
-        ensures promise { Promise (B.meaning self.now.basis.now) V.order (V.operations valuation.now) }
+        ensures turn { Turns (V.operations valuation.now) self.now AskFigure (HasFigure result) self.now }
+        ensures value { result ≡ figure_at (basis_of self.now) (V.operations valuation.now) (standing self.now) }
+        ensures promise { Promise (basis_of self.now) V.ends (V.operations valuation.now) }
     {
         let (state, year) = (self.state, self.year);
         figure(valuation, self.basis, &self.plan, self.premium, state, year)
@@ -63,10 +65,10 @@ impl<'a, B: Basis, P: Plan> Contract<'a, B, P> {
 
     // Writes the course from the contract's year on into the front of the column.
     pub fn course(&self, column: &mut [i64]) -> Result<(), Fault>
-        ensures entry { Enters (B.meaning self.now.basis.now) (standing P.payments self.now) (AskCourse column.old) (course_said result column.new) (standing P.payments self.now) }
+        ensures entry { Enters self.now (AskCourse column.old) (course_said result column.new) self.now }
         ensures unchanged { OnErr result (column.new ≡ column.old) }
         ensures length { length column.new ≡ length column.old }
-        ensures promise { Promise (B.meaning self.now.basis.now) ◌≤ℤ◌ mean }
+        ensures promise { Promise (basis_of self.now) mean_ends mean }
     {
         match course(self.basis, &self.plan, self.premium, self.year, column) {
             Ok(()) => Ok(()),

@@ -1,7 +1,6 @@
 // A contract as it is issued.
-ghost use Rattle.std.specs.Prelude.{◌≡◌, pos};
-ghost use Rattle.contract.specs.Engine.{standing};
-ghost use Rattle.contract.specs.Standings.{begun};
+ghost use Rattle.std.specs.Prelude.{◌≡◌, ◌<◌};
+ghost use Rattle.contract.specs.ContractStates.{standing};
 
 use super::Contract;
 use basis::Basis;
@@ -16,8 +15,15 @@ impl<'a, B: Basis, P: Plan> Contract<'a, B, P> {
         premium: Premium,
         start: usize,
     ) -> Contract<'a, B, P>
+        requires { start < (B.meaning basis.now).states }
         ensures basis { result.basis.now ≡ basis.now }
-        ensures standing { standing P.payments result ≡ record { plan = P.payments plan; premium = premium.ticks; state = start; year = 0; number = 0 } }
+        ensures standing { standing result ≡ record {
+          plan = P.payments plan;
+          premium = premium.ticks;
+          state = start;
+          year = 0;
+          number = 0;
+        } }
     {
         Contract {
             basis,

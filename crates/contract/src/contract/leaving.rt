@@ -1,9 +1,7 @@
 // Leaving.
-ghost use Rattle.std.specs.Prelude.{◌≡◌, ◌≤ℤ◌};
-ghost use Rattle.valuation.specs.Means.{mean};
-ghost use Rattle.contract.specs.Engine.{standing};
+ghost use Rattle.valuation.specs.Means.{mean, mean_ends};
+ghost use Rattle.contract.specs.ContractStates.{basis_of, Leaves};
 ghost use Rattle.contract.specs.Promises.{Promise};
-ghost use Rattle.contract.specs.Steps.{payout, leaving_result};
 
 use super::Contract;
 use crate::answer::Left;
@@ -11,11 +9,10 @@ use basis::Basis;
 use plan::Plan;
 
 impl<'a, B: Basis, P: Plan + Drop> Contract<'a, B, P> {
-    // Uses the contract up: its reserve is paid, where it is above nought.
+    // Uses the contract up: its reserve is paid, where it is above nought, and nothing is carried any more.
     pub fn leave(self) -> Left
-        ensures paid { result.paid ≡ payout (B.meaning self.entry.basis.now) (standing P.payments self.entry) }
-        ensures result { result.result ≡ leaving_result (B.meaning self.entry.basis.now) (standing P.payments self.entry) }
-        ensures promise { Promise (B.meaning self.entry.basis.now) ◌≤ℤ◌ mean }
+        ensures leaves { Leaves self.entry result }
+        ensures promise { Promise (basis_of self.entry) mean_ends mean }
     {
         let reserve = self.reserve();
         let paid = reserve.max(0);

@@ -1,5 +1,5 @@
 // A contract on a basis.
-ghost use Rattle.std.specs.Prelude.{◌≤◌};
+ghost use Rattle.std.specs.Prelude.{◌<◌, ◌≤◌};
 
 mod altering;
 mod answering;
@@ -8,15 +8,15 @@ mod closing;
 mod issued;
 mod leaving;
 
+use basis::Basis;
+use plan::Plan;
 use units::premium::Premium;
 
 // The last number that a closing or an alteration can be given.
 const LAST_NUMBER: u16 = 9_999;
 
-// Its state and year are those of a ledger, which stands in the basis after every run from a placed proposal: the type cannot say so,
-// and no call relies on it.
 #[derive(Drop)]
-pub struct Contract<'a, B, P> {
+pub struct Contract<'a, B: Basis, P: Plan> {
     basis: &'a B,
     plan: P,
     premium: Premium,
@@ -24,5 +24,7 @@ pub struct Contract<'a, B, P> {
     year: usize,
     // The closings and alterations accepted so far.
     number: u16,
+    ghost state_in_basis: { state < (B.meaning basis.now).states },
+    ghost year_in_basis: { year ≤ (B.meaning basis.now).years },
     ghost counted: { number ≤ 9999 },
 }
