@@ -1,5 +1,5 @@
 // Alterations: priced against the old reserve.
-use super::{closed, fault, issued, two_years};
+use super::{fault, issued, results, two_years};
 use plan::endowment::Endowment;
 use std::test::Fail;
 
@@ -47,7 +47,7 @@ fn keeps_the_old_plan_where_no_premium_will_do(rt: HostRuntime) -> Result<(), Fa
         );
         assert_eq!(rt; (contract.reserve(), contract.span()), (447_513, span));
     }
-    assert_eq!(rt; contract.close(1, -10_000), Ok(closed(2, -109_000, 0)));
+    assert_eq!(rt; results(contract.close(1, -10_000)), Ok((2, -109_000, 0)));
     Ok(())
 }
 
@@ -73,9 +73,9 @@ fn goes_on_at_the_new_premium(rt: HostRuntime) -> Result<(), Fail> {
         (altered.number, altered.premium.ticks(), altered.result),
         (1, 904_973, 0)
     );
-    assert_eq!(rt; contract.close(0, 0), Ok(closed(2, -100_552, 110_497)));
+    assert_eq!(rt; results(contract.close(0, 0)), Ok((2, -100_552, 110_497)));
     assert_eq!(rt; contract.reserve(), 895_027);
-    assert_eq!(rt; contract.close(0, 10_000), Ok(closed(3, -182_000, 0)));
+    assert_eq!(rt; results(contract.close(0, 10_000)), Ok((3, -182_000, 0)));
     assert_eq!(rt; contract.reserve(), 2_000_000);
     Ok(())
 }

@@ -1,5 +1,5 @@
 // Questions, which change nothing.
-use super::{closed, fault, issued, two_years};
+use super::{fault, issued, results, two_years};
 use plan::endowment::Endowment;
 use std::test::Fail;
 use valuation::mean::Mean;
@@ -75,6 +75,6 @@ fn counts_no_question(rt: HostRuntime) -> Result<(), Fail> {
     let _span = contract.span();
     assert!(rt; contract.course(&mut []).is_err());
     assert!(rt; contract.close(2, 0).is_err());
-    assert_eq!(rt; contract.close(0, 120_000), Ok(closed(1, 4_022, 55_249)));
+    assert_eq!(rt; results(contract.close(0, 120_000)), Ok((1, 4_022, 55_249)));
     Ok(())
 }

@@ -1,5 +1,5 @@
 // Closings: the results on interest and on risk, and the refusals in their order.
-use super::{closed, fault, issued, two_years};
+use super::{fault, issued, results, two_years};
 use plan::endowment::Endowment;
 use std::test::Fail;
 
@@ -21,8 +21,8 @@ fn posts_the_results_of_a_year(rt: HostRuntime) -> Result<(), Fail> {
     for (end, rate, interest, risk, reserve) in cases {
         let mut contract = issued(&table, Endowment::new(1_000_000, 2, 2)?, 0, 0)?;
         assert_eq!(rt;
-            contract.close(end, rate),
-            Ok(closed(1, interest, risk)),
+            results(contract.close(end, rate)),
+            Ok((1, interest, risk)),
             "{end} {rate}"
         );
         assert_eq!(rt; contract.reserve(), reserve, "{end} {rate}");
@@ -58,7 +58,7 @@ fn refuses_the_alive_in_order(rt: HostRuntime) -> Result<(), Fail> {
             "{end} {rate}"
         );
     }
-    assert_eq!(rt; contract.close(0, 120_000), Ok(closed(1, 4_022, 55_249)));
+    assert_eq!(rt; results(contract.close(0, 120_000)), Ok((1, 4_022, 55_249)));
     Ok(())
 }
 
@@ -83,7 +83,7 @@ fn refuses_the_dead_in_order(rt: HostRuntime) -> Result<(), Fail> {
         );
         assert_eq!(rt; contract.reserve(), 0, "{end} {rate}");
     }
-    assert_eq!(rt; contract.close(1, 500_000), Ok(closed(2, 0, 0)));
+    assert_eq!(rt; results(contract.close(1, 500_000)), Ok((2, 0, 0)));
     for (end, rate) in [(1, 0), (0, 0), (0, 500_001), (2, 500_001)] {
         assert_eq!(rt;
             contract.close(end, rate),

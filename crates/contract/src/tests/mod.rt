@@ -7,7 +7,7 @@ mod numbers;
 mod printed;
 mod proposing;
 mod running;
-mod staying;
+mod undiscounted;
 
 use crate::answer::Closed;
 use crate::contract::Contract;
@@ -42,10 +42,35 @@ pub(crate) fn fault(number: u8, year: usize, state: usize) -> Fault {
     Fault::at_entry(number, Layer::Contract, year, state)
 }
 
-pub(crate) fn closed(number: u16, interest_result: i64, risk_result: i64) -> Closed {
+// The number of a closing, and its results on interest and on risk.
+pub(crate) fn results(outcome: Result<Closed, Fault>) -> Result<(u16, i64, i64), Fault> {
+    outcome.map(|year| (year.number, year.interest_result, year.risk_result))
+}
+
+// The year in which he lives, at twelve per cent.
+pub(crate) fn lived() -> Closed {
     Closed {
-        number,
-        interest_result,
-        risk_result,
+        number: 1,
+        year: 0,
+        premium: 452_487,
+        benefits: 0,
+        interest_earned: 54_298,
+        interest_result: 4_022,
+        risk_result: 55_249,
+        reserve: 447_513,
+    }
+}
+
+// The year after, in which he dies, at one per cent below nought.
+pub(crate) fn died() -> Closed {
+    Closed {
+        number: 2,
+        year: 1,
+        premium: 452_487,
+        benefits: 1_000_000,
+        interest_earned: -9_000,
+        interest_result: -109_000,
+        risk_result: 0,
+        reserve: 0,
     }
 }

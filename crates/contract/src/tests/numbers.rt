@@ -1,6 +1,6 @@
 // The numbers of closings and alterations, up to the last. On a table of one year in which nobody dies, an endowment of 1,000,000 ticks
 // costs 900,000, and altering to the same again changes only the number.
-use super::{closed, fault, issued};
+use super::{fault, issued, results};
 use crate::answer::Altered;
 use crate::contract::Contract;
 use basis::life::LifeTable;
@@ -28,6 +28,7 @@ fn alter_up_to(
             number,
             premium,
             result: 0,
+            reserve: 0,
         };
         assert_eq!(rt; contract.alter(plan), Ok(altered));
     }
@@ -39,7 +40,7 @@ fn gives_the_last_number(rt: HostRuntime) -> Result<(), Fail> {
     let table = one_year(&rt)?;
     let mut contract = issued(&table, Endowment::new(1_000_000, 1, 1)?, 0, 0)?;
     alter_up_to(&rt, &mut contract, 9_998)?;
-    assert_eq!(rt; contract.close(0, 0), Ok(closed(9_999, -100_000, 0)));
+    assert_eq!(rt; results(contract.close(0, 0)), Ok((9_999, -100_000, 0)));
     assert_eq!(rt; contract.close(0, 0), Err(fault(16, 1, 0)));
     assert_eq!(rt;
         contract.alter(Endowment::new(1_000_000, 1, 1)?),

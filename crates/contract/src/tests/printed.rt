@@ -1,5 +1,5 @@
 // The printed case, call by call.
-use super::{closed, fault, issued, two_years};
+use super::{died, fault, issued, lived, two_years};
 use crate::answer::Left;
 use crate::proposal::Proposal;
 use plan::endowment::Endowment;
@@ -13,9 +13,9 @@ fn goes_as_printed(rt: HostRuntime) -> Result<(), Fail> {
     assert_eq!(rt; proposal.price()?.ticks(), 452_487);
     let (mut contract, result) = proposal.issue();
     assert_eq!(rt; (contract.reserve(), result), (-1, 1));
-    assert_eq!(rt; contract.close(0, 120_000), Ok(closed(1, 4_022, 55_249)));
+    assert_eq!(rt; contract.close(0, 120_000), Ok(lived()));
     assert_eq!(rt; contract.reserve(), 447_513);
-    assert_eq!(rt; contract.close(1, -10_000), Ok(closed(2, -109_000, 0)));
+    assert_eq!(rt; contract.close(1, -10_000), Ok(died()));
     assert_eq!(rt; contract.reserve(), 0);
     assert_eq!(rt; contract.close(1, 0), Err(fault(16, 2, 1)));
     assert_eq!(rt; contract.leave(), Left { paid: 0, result: 0 });

@@ -1,6 +1,6 @@
 // Cases that are run.
-use super::{closed, fault, two_years};
-use crate::answer::{Altered, Answer, Left};
+use super::{died, fault, lived, two_years};
+use crate::answer::{Altered, Answer, Closed, Left};
 use crate::case::{Case, End, Run};
 use crate::request::Request;
 use crate::run::run;
@@ -44,9 +44,9 @@ fn printed_case(rt: &HostRuntime, leaves: bool) -> Result<Case<Endowment>, Fail>
 fn printed_answers(rt: &HostRuntime) -> Result<Vec<Answer<i64>>, Fail> {
     let answers = vec![in rt.alloc();
         Answer::Reserve(7),
-        Answer::Closed(closed(1, 4_022, 55_249)),
+        Answer::Closed(lived()),
         Answer::Reserve(447_513),
-        Answer::Closed(closed(2, -109_000, 0)),
+        Answer::Closed(died()),
         Answer::Refused(fault(16, 2, 1)),
     ]?;
     Ok(answers)
@@ -117,6 +117,17 @@ fn answers_requests_of_every_kind(rt: HostRuntime) -> Result<(), Fail> {
         number: 1,
         premium: Premium::try_from(904_973)?,
         result: 0,
+        reserve: -1,
+    };
+    let closed = Closed {
+        number: 2,
+        year: 0,
+        premium: 904_973,
+        benefits: 0,
+        interest_earned: 0,
+        interest_result: -100_552,
+        risk_result: 110_497,
+        reserve: 895_027,
     };
     let expected = vec![in rt.alloc();
         Answer::Span(Ends {
@@ -132,7 +143,7 @@ fn answers_requests_of_every_kind(rt: HostRuntime) -> Result<(), Fail> {
         Answer::Course(vec![in rt.alloc(); -1, 0, 895_027, 0, 2_000_000, 0, 7]?),
         Answer::Refused(fault(17, 0, 0)),
         Answer::Refused(fault(18, 0, 0)),
-        Answer::Closed(closed(2, -100_552, 110_497)),
+        Answer::Closed(closed),
         Answer::TooShort {
             fault: fault(22, 1, 0),
             column: vec![in rt.alloc(); 7; 3]?,
