@@ -27,3 +27,10 @@ pub record Lawful (c : Transitions) : Type 0 where
   pub share_after : (i j t : ℕ) → c.years ≤ t → c.share i j t ≡ 0
   pub share_from_outside : (i j t : ℕ) → c.states ≤ i → c.share i j t ≡ 0
   pub share_to_outside : (i j t : ℕ) → c.states ≤ j → c.share i j t ≡ 0
+
+-- two bases mean the same, for every argument
+pub record AgreeEverywhere (a b : Transitions) : Type 0 where
+  pub states : a.states ≡ b.states
+  pub years : a.years ≡ b.years
+  pub factor : (t : ℕ) → a.factor t ≡ b.factor t
+  pub share : (i j t : ℕ) → a.share i j t ≡ b.share i j t

@@ -9,7 +9,7 @@ use Rattle.basis.specs.Transitions.{Transitions, Lawful, moves}
 use Rattle.plan.specs.Payments.{Payments, InRange}
 use Rattle.valuation.specs.declared.span.ends.Ends.{Ends}
 use Rattle.valuation.specs.Extremes.{smallest, largest}
-use Rattle.valuation.specs.Figures.{flow, figure_before, figure_with, figure}
+use Rattle.valuation.specs.Figures.{flow, figure_before, figure_with, figure, IsFigureOf}
 use Rattle.valuation.specs.Means.{mean, LawfulFigure}
 use Rattle.valuation.specs.SpanOperations.{possible, span, LawfulEnds}
 use Rattle.valuation.specs.Spans.{possible_moves, follows, end_with, ends}
@@ -87,3 +87,6 @@ module _ (c : Transitions) (law : Lawful c) (p : Payments) (range : InRange p) (
 
   pub ends_bound : (i t : ℕ) → LawfulEnds (ends c p premium i t)
   ends_bound i t = record { least = end_bound smallest smallest_within i t; greatest = end_bound largest largest_within i t }
+
+pub ends_are_figure : IsFigureOf span ends
+ends_are_figure c law p range premium small = ends_is c law p range premium small

@@ -31,4 +31,5 @@ module _ {B : Type 0} {b : BasisGhosts B} where
   -- the values are those of closing the year by a move, for a plan at a premium
   abbrev pub AreClosingValues : Move B b → Payments → ℕ → (ℤ × ℤ) × ℤ → Type 0
   AreClosingValues step p premium values =
-      ClosingValues (b.meaning step.basis.now) p premium step.from step.year step.to values.0.0 values.0.1 values.1
+      ClosingValues (b.meaning step.basis.now) p premium step.from step.year step.to
+      values.0.0 values.0.1 values.1

@@ -1,8 +1,10 @@
 -- The figure of each state and year, backwards from the last year of the basis. Assumes nothing.
-use Rattle.std.specs.Prelude.{ℕ, zero, suc, ◌+◌, ◌-◌, cond, ◌&&◌, List, map, flat_map, ℤ, pos, ◌-ℤ◌, nat_lt}
+use Rattle.std.specs.Prelude.{◌≡◌, ℕ, zero, suc, ◌+◌, ◌-◌, ◌≤◌, cond, ◌&&◌, List, map, flat_map, get_or}
+use Rattle.std.specs.Prelude.{ℤ, pos, ◌-ℤ◌, nat_lt}
 use Rattle.std.specs.List.{range_with_len}
-use Rattle.basis.specs.Transitions.{Transitions, moves}
-use Rattle.plan.specs.Payments.{Payments}
+use Rattle.units.specs.Ranges.{limit}
+use Rattle.basis.specs.Transitions.{Transitions, Lawful, moves}
+use Rattle.plan.specs.Payments.{Payments, InRange}
 use Rattle.valuation.specs.Operations.{Operations}
 
 -- what is paid in state i at the start of year t, less the premium where it is due and a year is left
@@ -13,6 +15,10 @@ module _ {F : Type 0} (v : Operations F) (c : Transitions) (p : Payments) where
   -- E, the join of what follows the moves out of state i in year t, where `next j` is the figure of state j a year later
   abbrev pub joined : ℕ → ℕ → (ℕ → F) → F
   joined i t next = v.join i (map (λ j. c.share i j t) (moves c)) (map (λ j. v.add (next j) (pos (p.move_benefit i j t))) (moves c))
+
+  -- the same from the figures of all states a year later, in a list
+  abbrev pub joined_from : ℕ → ℕ → List F → F
+  joined_from i t after = joined i t (λ j. get_or after j (v.make (pos 0)))
 
   -- W, that join discounted to the start of the year
   abbrev pub discounted : ℕ → ℕ → (ℕ → F) → F
@@ -37,3 +43,11 @@ module _ {F : Type 0} (v : Operations F) (c : Transitions) (p : Payments) where
   -- a row for each year from t to the last, one after another: the figures of all states in it
   abbrev pub rows_from : ℕ → ℕ → List F
   rows_from premium t = flat_map (figures_of premium) (range_with_len t (c.years + 1 - t))
+
+-- a value is the figure of a valuation: on every lawful basis, of every plan in range, at every
+-- premium in range, in every state and year
+abbrev pub IsFigureOf : {F : Type 0} →
+    Operations F → (Transitions → Payments → ℕ → ℕ → ℕ → F) → Type 0
+IsFigureOf v value =
+    (c : Transitions) → Lawful c → (p : Payments) → InRange p → (premium : ℕ) → premium ≤ limit →
+    (i t : ℕ) → figure v c p premium i t ≡ value c p premium i t

@@ -6,10 +6,12 @@ pub mod Extremes
 pub mod Figures
 pub mod Means
 pub mod Operations
+pub mod OrderFacts
 pub mod Orders
 pub mod Premiums
 pub mod Reserves
 pub mod SpanOperations
 pub mod SpanOrders
 pub mod Spans
+pub mod Sweeps
 pub mod WorkedCase

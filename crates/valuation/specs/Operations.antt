@@ -10,7 +10,7 @@ pub record Operations (F : Type 0) : Type 0 where
   pub join : ℕ → List ℕ → List F → F
   pub discount : ℕ → F → F
 
--- what the ends of figures are: amounts, as many of every figure, and equal ends are those of equal figures
+-- what the ends of figures are: amounts, as many of every figure, and equal only of equal figures
 pub record AreEnds {F : Type 0} (ends : F → List ℤ) : Type 0 where
   pub as_many : (x y : F) → length (ends x) ≡ length (ends y)
   pub tell : (x y : F) → ends x ≡ ends y → x ≡ y

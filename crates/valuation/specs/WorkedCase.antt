@@ -18,14 +18,17 @@ worked_basis = lives (100000 ∷ 200000 ∷ []) 900000
 abbrev pub worked_plan : Payments
 worked_plan = endows 1000000 2 2
 
-pub record WorkedFigures : Type 0 where
+pub record WorkedRounding : Type 0 where
   pub half : nearest (pos 500000) ≡ pos 1
   pub below_half : nearest (pos 499999) ≡ pos 0
   pub half_below_nought : nearest (negsuc 499999) ≡ pos 0
   pub past_half_below_nought : nearest (negsuc 500000) ≡ negsuc 0
-  pub reserve_one_tick_too_cheap : reserve worked_basis worked_plan 452486 0 0 ≡ pos 1
-  pub reserve_at_premium : reserve worked_basis worked_plan 452487 0 0 ≡ negsuc 0
-  pub least_premium : LeastPremium worked_basis worked_plan 0 0 (pos 0) 452487
+
+-- on the basis of two years, or one that is the same
+pub record WorkedFigures (c : Transitions) : Type 0 where
+  pub reserve_one_tick_too_cheap : reserve c worked_plan 452486 0 0 ≡ pos 1
+  pub reserve_at_premium : reserve c worked_plan 452487 0 0 ≡ negsuc 0
+  pub least_premium : LeastPremium c worked_plan 0 0 (pos 0) 452487
   -- -1.47 ticks, with 24 decimals
-  pub exact_at_premium : exact worked_basis worked_plan 452487 0 0 ≡ negsuc 1469999999999999999999999
-  pub span_at_premium : ends worked_basis worked_plan 452487 0 0 ≡ record { least = negsuc 49724; greatest = pos 447513 }
+  pub exact_at_premium : exact c worked_plan 452487 0 0 ≡ negsuc 1469999999999999999999999
+  pub span_at_premium : ends c worked_plan 452487 0 0 ≡ record { least = negsuc 49724; greatest = pos 447513 }

@@ -11,6 +11,7 @@ use units::premium::Premium;
 use units::rule::Rule;
 
 // Writes a row of the reserves of all states for each year from `year` to the last, one after another, into the front of the column.
+#[tactic(auto, using(crate::specs::Orders::mean_ordered))]
 pub fn course<B: Basis, P: Plan>(
     basis: &B,
     plan: &P,
@@ -18,7 +19,10 @@ pub fn course<B: Basis, P: Plan>(
     year: usize,
     column: &mut [i64],
 ) -> Result<(), Fault>
-    ensures { MatchResult result (λ _. Writes (B.meaning basis.now) (P.payments plan.now) premium.ticks year column.old column.new) (λ fault. Refuses (B.meaning basis.now) year column.old column.new fault) }
+    ensures { MatchResult result
+        (λ _. Writes (B.meaning basis.now) (P.payments plan.now) premium.ticks year
+        column.old column.new)
+        (λ fault. Refuses (B.meaning basis.now) year column.old column.new fault) }
 {
     let years = basis.years();
     let length = (years + 1).saturating_sub(year) * basis.states();

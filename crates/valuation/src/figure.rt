@@ -18,9 +18,12 @@ pub fn figure<V: Valuation, B: Basis, P: Plan>(
     state: usize,
     year: usize,
 ) -> V::Figure
-    ensures value { result ≡ figure (V.operations valuation.now) (B.meaning basis.now) (P.payments plan.now) premium.ticks state year }
-    ensures nowhere_valued_lower { NowhereValuedLower V.ends (B.meaning basis.now) (figure (V.operations valuation.now) (B.meaning basis.now)) }
-    ensures never_raised_by_premium { NeverRaisedByPremium V.ends (B.meaning basis.now) (figure (V.operations valuation.now) (B.meaning basis.now)) }
+    ensures value { result ≡ figure (V.operations valuation.now) (B.meaning basis.now)
+        (P.payments plan.now) premium.ticks state year }
+    ensures nowhere_valued_lower { NowhereValuedLower V.ends (B.meaning basis.now)
+        (figure (V.operations valuation.now) (B.meaning basis.now)) }
+    ensures never_raised_by_premium { NeverRaisedByPremium V.ends (B.meaning basis.now)
+        (figure (V.operations valuation.now) (B.meaning basis.now)) }
 {
     let sweep = Sweep {
         valuation,

@@ -1,9 +1,9 @@
 // Valuations: what a contract is worth in each state and year, by one backward sweep over a basis and a plan.
 #![tactic(auto)]
 
-ghost use Rattle.std.specs.Prelude.{◌≡◌, ◌*◌, ◌^◌, ◌<◌, List, get_or, length, ℤ, pos};
+ghost use Rattle.std.specs.Prelude.{◌≡◌, ◌*◌, ◌^◌, ◌<◌, List, length, ℤ};
 ghost use Rattle.std.specs.Mem.{type_size};
-ghost use Rattle.valuation.specs.Figures.{joined};
+ghost use Rattle.valuation.specs.Figures.{joined_from};
 ghost use Rattle.valuation.specs.Operations.{Operations, AreEnds, Ordered};
 
 pub mod closing;
@@ -56,7 +56,9 @@ pub trait Valuation {
         year: usize,
         after: &[Self::Figure],
     ) -> Self::Figure
-        ensures { length after.now ≡ (B.meaning basis.now).states → result ≡ joined (operations self.now) (B.meaning basis.now) (P.payments plan.now) state year (λ j. get_or after.now j ((operations self.now).make (pos 0))) }
+        ensures { length after.now ≡ (B.meaning basis.now).states →
+            result ≡ joined_from (operations self.now) (B.meaning basis.now) (P.payments plan.now)
+            state year after.now }
     {
         let states = after.len().min(MOST_STATES);
         let mut shares = [0u32; MOST_STATES];

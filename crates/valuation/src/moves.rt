@@ -7,7 +7,8 @@ use basis::Basis;
 
 // The shares of the moves out of a state in a year, to as many states as there are places.
 pub(crate) fn fill_shares<B: Basis>(basis: &B, state: usize, year: usize, shares: &mut [u32])
-    ensures { shares.new ≡ map (λ j. (B.meaning basis.now).share state j year) (range_with_len 0 (length shares.old)) }
+    ensures { shares.new ≡ map (λ j. (B.meaning basis.now).share state j year)
+        (range_with_len 0 (length shares.old)) }
 {
     fill_each(shares, |to| basis.share(state, to, year));
 }

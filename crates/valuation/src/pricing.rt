@@ -25,8 +25,12 @@ pub fn least_premium<B: Basis, P: Plan>(
     year: usize,
     bound: i64,
 ) -> Result<Premium, Fault>
-    ensures least { MatchResult result (λ premium. LeastPremium (B.meaning basis.now) (P.payments plan.now) state year bound premium.ticks) (λ fault. NoPremium (B.meaning basis.now) (P.payments plan.now) state year bound fault) }
-    ensures never_raised_by_premium { NeverRaisedByPremium mean_ends (B.meaning basis.now) (reserve (B.meaning basis.now)) }
+    ensures least { MatchResult result
+        (λ premium. LeastPremium (B.meaning basis.now) (P.payments plan.now) state year bound
+        premium.ticks)
+        (λ fault. NoPremium (B.meaning basis.now) (P.payments plan.now) state year bound fault) }
+    ensures never_raised_by_premium { NeverRaisedByPremium mean_ends (B.meaning basis.now)
+        (reserve (B.meaning basis.now)) }
 {
     let mut least = Err(Fault::breach(Rule::Premium, year, state));
     let mut low = 0;

@@ -1,7 +1,10 @@
 // The backward sweep, for every kind of figure. It allocates nothing: figures stand in arrays on the stack, as long as any basis
 // wants, which a valuation's law says to fit in memory. A slice to fill is handed on at once, so that its length stays a clause.
 ghost use Rattle.std.specs.Prelude.{◌≡◌, ◌+◌, ◌-◌, ◌*◌, ◌<◌, ◌≤◌, drop, length};
-ghost use Rattle.valuation.specs.Figures.{flow, joined, discounted, figure, figures_of, rows_from};
+ghost use Rattle.basis.specs.Transitions.{Lawful};
+ghost use Rattle.plan.specs.Payments.{InRange};
+ghost use Rattle.valuation.specs.OrderFacts.{Ordered-prop};
+ghost use Rattle.valuation.specs.Operations.{Ordered};
 
 use crate::Valuation;
 use crate::fill::fill_each;
@@ -11,19 +14,25 @@ use plan::Plan;
 use units::MOST_STATES;
 use units::premium::Premium;
 
-// What is swept: a plan at a premium, on a basis, in a valuation.
-#[derive_where(Clone, Copy)]
-pub(crate) struct Sweep<'a, V, B, P> {
+// What is swept: a plan at a premium, on a basis, in a valuation. Its type has the laws of all three.
+#[derive(Drop)]
+pub(crate) struct Sweep<'a, V: Valuation, B: Basis, P: Plan> {
     pub(crate) valuation: &'a V,
     pub(crate) basis: &'a B,
     pub(crate) plan: &'a P,
     pub(crate) premium: Premium,
+    ghost ordered: { Ordered V.ends (V.operations valuation.now) } by { Ordered-prop _ _ },
+    ghost lawful: { Lawful (B.meaning basis.now) },
+    ghost in_range: { InRange (P.payments plan.now) },
 }
 
 impl<'a, V: Valuation, B: Basis, P: Plan> Sweep<'a, V, B, P> {
+    ghost use Rattle.valuation.specs.Sweeps.{states_of, years_of, flow_at, figure_at, figures_in};
+    ghost use Rattle.valuation.specs.Sweeps.{joined_at, discounted_at, rows_from_year};
+
     // What is paid in a state at the start of a year, less the premium where it is due.
     pub(crate) fn flow_of(&self, state: usize, year: usize) -> i64
-        ensures { result ≡ flow (B.meaning self.now.basis.now) (P.payments self.now.plan.now) self.now.premium.ticks state year }
+        ensures { result ≡ flow_at self.now state year }
     {
         let benefit = self.plan.benefit(state, year) as i64;
         if year < self.basis.years() && self.plan.due(state, year) {
@@ -35,8 +44,8 @@ impl<'a, V: Valuation, B: Basis, P: Plan> Sweep<'a, V, B, P> {
 
     // The figures of all states in the year after the last.
     fn last_year(&self, figures: &mut [V::Figure])
-        requires { length figures.old ≡ (B.meaning self.now.basis.now).states }
-        ensures { figures.new ≡ figures_of (V.operations self.now.valuation.now) (B.meaning self.now.basis.now) (P.payments self.now.plan.now) self.now.premium.ticks (B.meaning self.now.basis.now).years }
+        requires { length figures.old ≡ states_of self.now }
+        ensures { figures.new ≡ figures_in self.now (years_of self.now) }
     {
         let year = self.basis.years();
         fill_each(
@@ -47,9 +56,9 @@ impl<'a, V: Valuation, B: Basis, P: Plan> Sweep<'a, V, B, P> {
 
     // The figures of all states in a year, backwards from the last year of the basis.
     fn back_to(&self, year: usize, figures: &mut [V::Figure])
-        requires year { year ≤ (B.meaning self.now.basis.now).years }
-        requires figures { length figures.old ≡ (B.meaning self.now.basis.now).states }
-        ensures { figures.new ≡ figures_of (V.operations self.now.valuation.now) (B.meaning self.now.basis.now) (P.payments self.now.plan.now) self.now.premium.ticks year }
+        requires year { year ≤ years_of self.now }
+        requires figures { length figures.old ≡ states_of self.now }
+        ensures { figures.new ≡ figures_in self.now year }
     {
         let mut held = [self.valuation.make(0); MOST_STATES];
         let after = &mut held[..figures.len()];
@@ -68,10 +77,10 @@ impl<'a, V: Valuation, B: Basis, P: Plan> Sweep<'a, V, B, P> {
 
     // The row of a year that the basis has, where the rows of all later years stand behind its place.
     fn fill_row(&self, year: usize, rows: &mut [V::Figure])
-        requires year { year < (B.meaning self.now.basis.now).years }
-        requires length { length rows.old ≡ ((B.meaning self.now.basis.now).years + 1 - year) * (B.meaning self.now.basis.now).states }
-        requires later { drop (B.meaning self.now.basis.now).states rows.old ≡ rows_from (V.operations self.now.valuation.now) (B.meaning self.now.basis.now) (P.payments self.now.plan.now) self.now.premium.ticks (year + 1) }
-        ensures { rows.new ≡ rows_from (V.operations self.now.valuation.now) (B.meaning self.now.basis.now) (P.payments self.now.plan.now) self.now.premium.ticks year }
+        requires year { year < years_of self.now }
+        requires length { length rows.old ≡ (years_of self.now + 1 - year) * states_of self.now }
+        requires later { drop (states_of self.now) rows.old ≡ rows_from_year self.now (year + 1) }
+        ensures { rows.new ≡ rows_from_year self.now year }
     {
         let states = self.basis.states();
         let mut held = [self.valuation.make(0); MOST_STATES];
@@ -88,9 +97,9 @@ impl<'a, V: Valuation, B: Basis, P: Plan> Sweep<'a, V, B, P> {
 
     // The rows of a year and of all later years, one after another.
     pub(crate) fn fill_rows(&self, first: usize, rows: &mut [V::Figure])
-        requires year { first ≤ (B.meaning self.now.basis.now).years }
-        requires length { length rows.old ≡ ((B.meaning self.now.basis.now).years + 1 - first) * (B.meaning self.now.basis.now).states }
-        ensures { rows.new ≡ rows_from (V.operations self.now.valuation.now) (B.meaning self.now.basis.now) (P.payments self.now.plan.now) self.now.premium.ticks first }
+        requires year { first ≤ years_of self.now }
+        requires length { length rows.old ≡ (years_of self.now + 1 - first) * states_of self.now }
+        ensures { rows.new ≡ rows_from_year self.now first }
     {
         let states = self.basis.states();
         let years = self.basis.years();
@@ -102,7 +111,7 @@ impl<'a, V: Valuation, B: Basis, P: Plan> Sweep<'a, V, B, P> {
 
     // The figure of any state in any year.
     pub(crate) fn figure_at(&self, state: usize, year: usize) -> V::Figure
-        ensures { result ≡ figure (V.operations self.now.valuation.now) (B.meaning self.now.basis.now) (P.payments self.now.plan.now) self.now.premium.ticks state year }
+        ensures { result ≡ figure_at self.now state year }
     {
         if year >= self.basis.years() {
             return self.valuation.make(self.flow_of(state, year));
@@ -125,11 +134,11 @@ impl<'a, V: Valuation, B: Basis, P: Plan> Sweep<'a, V, B, P> {
         year: usize,
         end: usize,
     ) -> ((V::Figure, V::Figure), V::Figure)
-        requires year { year < (B.meaning self.now.basis.now).years }
-        requires end { end < (B.meaning self.now.basis.now).states }
-        ensures discounted { result.0.0 ≡ discounted (V.operations self.now.valuation.now) (B.meaning self.now.basis.now) (P.payments self.now.plan.now) state year (λ j. figure (V.operations self.now.valuation.now) (B.meaning self.now.basis.now) (P.payments self.now.plan.now) self.now.premium.ticks j (year + 1)) }
-        ensures joined { result.0.1 ≡ joined (V.operations self.now.valuation.now) (B.meaning self.now.basis.now) (P.payments self.now.plan.now) state year (λ j. figure (V.operations self.now.valuation.now) (B.meaning self.now.basis.now) (P.payments self.now.plan.now) self.now.premium.ticks j (year + 1)) }
-        ensures later { result.1 ≡ figure (V.operations self.now.valuation.now) (B.meaning self.now.basis.now) (P.payments self.now.plan.now) self.now.premium.ticks end (year + 1) }
+        requires year { year < years_of self.now }
+        requires end { end < states_of self.now }
+        ensures discounted { result.0.0 ≡ discounted_at self.now state year }
+        ensures joined { result.0.1 ≡ joined_at self.now state year }
+        ensures later { result.1 ≡ figure_at self.now end (year + 1) }
     {
         let mut held = [self.valuation.make(0); MOST_STATES];
         let figures = &mut held[..self.basis.states()];

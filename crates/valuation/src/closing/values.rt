@@ -8,8 +8,9 @@ use basis::Basis;
 use plan::Plan;
 use units::premium::Premium;
 
-// The discounted join and the join in the state and year in which a move begins, as a pair, and the reserve of the state that it
-// leads to a year later.
+// The discounted join and the join in the state and year in which a move begins, as a pair, and the
+// reserve of the state that it leads to a year later.
+#[tactic(auto, using(crate::specs::Orders::mean_ordered))]
 pub fn closing_values<B: Basis, P: Plan>(
     step: &Move<'_, B>,
     plan: &P,

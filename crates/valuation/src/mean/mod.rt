@@ -86,7 +86,8 @@ impl Valuation for Mean {
 
     fn join(&self, _state: usize, row: &[u32], following: &[i64]) -> i64
         ensures meaning { result ≡ mean.join _state row.now following.now }
-        ensures formula { LawfulRow row.now → AllByRecursion LawfulFigure following.now → result ≡ rounded_mean (products row.now following.now) }
+        ensures formula { LawfulRow row.now → AllByRecursion LawfulFigure following.now →
+            result ≡ rounded_mean (products row.now following.now) }
     {
         let mut sum = 0i64;
         for (share, figure) in row.iter().zip(following.iter()) {
@@ -113,7 +114,8 @@ impl Valuation for Mean {
     #[tactic(auto, using(crate::proofs::Agreement::discount_is))]
     fn discount(&self, factor: u32, figure: i64) -> i64
         ensures meaning { result ≡ mean.discount factor figure }
-        ensures formula { factor ≤ million → LawfulFigure figure → result ≡ rounded_discount (pos factor *ℤ figure) }
+        ensures formula { factor ≤ million → LawfulFigure figure →
+            result ≡ rounded_discount (pos factor *ℤ figure) }
     {
         round_discount(parts_of(factor, figure))
     }

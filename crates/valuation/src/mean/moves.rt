@@ -2,7 +2,7 @@
 ghost use Rattle.std.specs.Prelude.{◌≡◌, ℕ, ◌≤◌, ◌↔◌, get_or, length, pos, ◌+ℤ◌, ◌*ℤ◌, IsTrue, IfSome};
 ghost use Rattle.units.specs.Near.{Within};
 ghost use Rattle.units.specs.Ranges.{million, limit};
-ghost use Rattle.valuation.specs.Figures.{joined};
+ghost use Rattle.valuation.specs.Figures.{joined_from};
 ghost use Rattle.valuation.specs.Means.{mean, rounded_mean};
 
 use super::parts_of;
@@ -50,7 +50,8 @@ pub(super) fn exact_moves<B: Basis, P: Plan>(
     year: usize,
     after: &[i64],
 ) -> Option<i64>
-    ensures { IfSome result (λ sum. rounded_mean sum ≡ joined mean (B.meaning basis.now) (P.payments plan.now) state year (λ j. get_or after.now j (pos 0))) }
+    ensures { IfSome result (λ sum. rounded_mean sum ≡ joined_from mean (B.meaning basis.now)
+        (P.payments plan.now) state year after.now) }
 {
     let states = basis.states();
     if after.len() != states || year >= basis.years() || !all_roomy(after) {
@@ -75,7 +76,9 @@ pub(super) fn nearest_moves<B: Basis, P: Plan>(
     year: usize,
     after: &[i64],
 ) -> i64
-    ensures { length after.now ≡ (B.meaning basis.now).states → rounded_mean result ≡ joined mean (B.meaning basis.now) (P.payments plan.now) state year (λ j. get_or after.now j (pos 0)) }
+    ensures { length after.now ≡ (B.meaning basis.now).states →
+        rounded_mean result ≡ joined_from mean (B.meaning basis.now) (P.payments plan.now)
+        state year after.now }
 {
     let mut sum = 0i64;
     for (to, figure) in after.iter().enumerate() {

@@ -11,7 +11,10 @@ pub struct Ends {
 impl Ends {
     // The span from the lower to the higher of two spans' ends.
     pub(crate) fn widened_by(self, other: Ends) -> Ends
-        ensures { result ≡ record { least = int_min self.least other.least; greatest = int_max self.greatest other.greatest } }
+        ensures { result ≡ record {
+          least = int_min self.least other.least;
+          greatest = int_max self.greatest other.greatest;
+        } }
     {
         Ends {
             least: self.least.min(other.least),

@@ -2,7 +2,8 @@
 ghost use Rattle.std.specs.Prelude.{◌≡◌};
 ghost use Rattle.valuation.specs.Comparisons.{NowhereValuedLower, NeverRaisedByPremium};
 ghost use Rattle.valuation.specs.Extremes.{smallest, largest, AreExtremes};
-ghost use Rattle.valuation.specs.SpanOperations.{span_ends, LawfulEnds};
+ghost use Rattle.valuation.specs.Figures.{IsFigureOf};
+ghost use Rattle.valuation.specs.SpanOperations.{span, span_ends, LawfulEnds};
 ghost use Rattle.valuation.specs.Spans.{ends, Encloses};
 
 pub mod ends;
@@ -23,12 +24,17 @@ pub fn span<B: Basis, P: Plan>(
     state: usize,
     year: usize,
 ) -> Ends
-    ensures value { result ≡ ends (B.meaning basis.now) (P.payments plan.now) premium.ticks state year }
+    ensures value { result ≡ ends (B.meaning basis.now) (P.payments plan.now) premium.ticks
+        state year }
+    ensures figure_of_the_span { IsFigureOf span ends }
     ensures laws { AreExtremes smallest largest }
     ensures range { LawfulEnds result }
-    ensures encloses { Encloses (B.meaning basis.now) (P.payments plan.now) premium.ticks state year result }
-    ensures nowhere_valued_lower { NowhereValuedLower span_ends (B.meaning basis.now) (ends (B.meaning basis.now)) }
-    ensures never_raised_by_premium { NeverRaisedByPremium span_ends (B.meaning basis.now) (ends (B.meaning basis.now)) }
+    ensures encloses { Encloses (B.meaning basis.now) (P.payments plan.now) premium.ticks
+        state year result }
+    ensures nowhere_valued_lower { NowhereValuedLower span_ends (B.meaning basis.now)
+        (ends (B.meaning basis.now)) }
+    ensures never_raised_by_premium { NeverRaisedByPremium span_ends (B.meaning basis.now)
+        (ends (B.meaning basis.now)) }
 {
     figure(&Span, basis, plan, premium, state, year)
 }

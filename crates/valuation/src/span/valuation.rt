@@ -35,7 +35,10 @@ impl Valuation for Span {
 
     fn add(&self, figure: Ends, amount: i64) -> Ends
         ensures meaning { result ≡ span.add figure amount }
-        ensures formula { LawfulEnds figure → LawfulFigure amount → result ≡ record { least = figure.least +ℤ amount; greatest = figure.greatest +ℤ amount } }
+        ensures formula { LawfulEnds figure → LawfulFigure amount → result ≡ record {
+          least = figure.least +ℤ amount;
+          greatest = figure.greatest +ℤ amount;
+        } }
     {
         Ends {
             least: Mean.add(figure.least, amount),
@@ -58,7 +61,10 @@ impl Valuation for Span {
 
     fn discount(&self, factor: u32, figure: Ends) -> Ends
         ensures meaning { result ≡ span.discount factor figure }
-        ensures formula { factor ≤ million → LawfulEnds figure → result ≡ record { least = rounded_discount (pos factor *ℤ figure.least); greatest = rounded_discount (pos factor *ℤ figure.greatest) } }
+        ensures formula { factor ≤ million → LawfulEnds figure → result ≡ record {
+          least = rounded_discount (pos factor *ℤ figure.least);
+          greatest = rounded_discount (pos factor *ℤ figure.greatest);
+        } }
     {
         Ends {
             least: Mean.discount(factor, figure.least),

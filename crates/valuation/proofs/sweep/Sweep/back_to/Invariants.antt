@@ -1,8 +1,7 @@
 use Rattle.std.proofs.Common.{◌≡◌, ◌≤◌}
-use Rattle.valuation.specs.Figures.{figures_of}
+use Rattle.valuation.specs.Sweeps.{figures_in}
 use Rattle.valuation.proofs.sweep.Sweep.back_to.Given as goal
 
 abbrev pub invariant-loop-earlier : goal.invariant-loop-earlier
 invariant-loop-earlier g l =
-    (l.figures ≡ figures_of (g.V.Valuation.operations l.self.valuation.now) (g.B.Basis.meaning l.self.basis.now) (g.P.Plan.payments l.self.plan.now) l.self.premium.ticks l.earlier)
-    × (l.year ≤ l.earlier)
+    (l.figures ≡ figures_in l.self l.earlier) × (l.year ≤ l.earlier)

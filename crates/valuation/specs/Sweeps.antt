@@ -1,0 +1,51 @@
+-- What a sweep answers, in any state and year. Assumes nothing.
+use Rattle.std.specs.Prelude.{ℕ, ◌+◌, List, ℤ}
+use Rattle.basis.specs.declared.Basis.{Ghosts as BasisGhosts}
+use Rattle.basis.specs.Transitions.{Transitions}
+use Rattle.plan.specs.declared.Plan.{Ghosts as PlanGhosts}
+use Rattle.plan.specs.Payments.{Payments}
+use Rattle.valuation.specs.declared.Valuation.{Ghosts as ValuationGhosts}
+use Rattle.valuation.specs.declared.sweep.Sweep.{Sweep}
+use Rattle.valuation.specs.Figures.{flow, joined, discounted, figure, figures_of, rows_from}
+use Rattle.valuation.specs.Operations.{Operations}
+
+module _ {V B P F : Type 0} {v : ValuationGhosts V F} {b : BasisGhosts B} {p : PlanGhosts P} where
+  -- the valuation, the basis and the plan of a sweep, as what they mean
+  abbrev pub operations_of : Sweep V B P F v b p → Operations F
+  operations_of s = v.operations s.valuation.now
+
+  abbrev pub transitions_of : Sweep V B P F v b p → Transitions
+  transitions_of s = b.meaning s.basis.now
+
+  abbrev pub payments_of : Sweep V B P F v b p → Payments
+  payments_of s = p.payments s.plan.now
+
+  abbrev pub states_of : Sweep V B P F v b p → ℕ
+  states_of s = (transitions_of s).states
+
+  abbrev pub years_of : Sweep V B P F v b p → ℕ
+  years_of s = (transitions_of s).years
+
+  abbrev pub flow_at : Sweep V B P F v b p → ℕ → ℕ → ℤ
+  flow_at s = flow (transitions_of s) (payments_of s) s.premium.ticks
+
+  abbrev pub figure_at : Sweep V B P F v b p → ℕ → ℕ → F
+  figure_at s = figure (operations_of s) (transitions_of s) (payments_of s) s.premium.ticks
+
+  -- E and W, from the figures a year later
+  abbrev pub joined_at : Sweep V B P F v b p → ℕ → ℕ → F
+  joined_at s i t =
+      joined (operations_of s) (transitions_of s) (payments_of s) i t (λ j. figure_at s j (t + 1))
+
+  abbrev pub discounted_at : Sweep V B P F v b p → ℕ → ℕ → F
+  discounted_at s i t =
+      discounted (operations_of s) (transitions_of s) (payments_of s) i t
+      (λ j. figure_at s j (t + 1))
+
+  -- the figures of all states of the basis in a year
+  abbrev pub figures_in : Sweep V B P F v b p → ℕ → List F
+  figures_in s = figures_of (operations_of s) (transitions_of s) (payments_of s) s.premium.ticks
+
+  -- a row of these for each year from one to the last
+  abbrev pub rows_from_year : Sweep V B P F v b p → ℕ → List F
+  rows_from_year s = rows_from (operations_of s) (transitions_of s) (payments_of s) s.premium.ticks
