@@ -11,11 +11,9 @@ use Rattle.plan.specs.Payments.{Payments}
 use Rattle.plan.specs.declared.Plan.{Ghosts as PlanGhosts}
 use Rattle.valuation.specs.Premiums.{NoPremium}
 use Rattle.contract.specs.Cases.{IsIssued, terms_at}
-use Rattle.contract.specs.ContractStates.{standing}
 use Rattle.contract.specs.Proposals.{Takes, Issues, LeastOf, basis_proposed, terms_of, begins_with, placed_in, deposited, priced_at}
-use Rattle.contract.specs.Standings.{Terms, AreTerms, IsPriced, NotIssued, begun, opening_result, start_outside, deposit_outside, no_premium}
+use Rattle.contract.specs.Standings.{Terms, AreTerms, IsPriced, NotIssued, begun, opening_result, reserve_at, start_outside, deposit_outside, no_premium}
 use Rattle.contract.specs.declared.case.Issued.{Issued}
-use Rattle.contract.specs.declared.contract.Contract.{Contract as Held}
 use Rattle.contract.specs.declared.proposal.Proposal.{Proposal}
 use Rattle.contract.proofs.Turns.{least_once}
 
@@ -55,8 +53,8 @@ module _ (c : Transitions) (plan : Payments) (start : ℕ) (deposit : ℤ) where
 
 -- ---- what is issued, by the steps that a proposal takes: new, placed, deposited on and priced
 module _ {B P : Type 0} {b : BasisGhosts B} {p : PlanGhosts P} (fresh on_place on_deposit on_price : Proposal B P b p) where
-  pub is_issued : (basis : B) (plan : P) (start : ℕ) (deposit : ℤ) (premium : Amount) (k : Held B P b p) (result : ℤ) (made : Issued B P b p) → fresh.basis.now ≡ basis → terms_of fresh ≡ begins_with (p.payments plan) → Takes fresh (placed_in start (terms_of fresh)) on_place → Takes on_place (deposited deposit (terms_of on_place)) on_deposit → LeastOf on_deposit premium.ticks → Takes on_deposit (priced_at premium.ticks (terms_of on_deposit)) on_price → Issues on_price k result → made.contract ≡ k → made.premium ≡ premium → made.opening_result ≡ result → IsIssued basis plan start deposit made
-  is_issued basis plan start deposit premium k result made on begins placed laid least priced issues same_contract same_premium same_result =
+  pub is_issued : (basis : B) (plan : P) (start : ℕ) (deposit : ℤ) (premium : Amount) (made : Issued B P b p) → fresh.basis.now ≡ basis → terms_of fresh ≡ begins_with (p.payments plan) → Takes fresh (placed_in start (terms_of fresh)) on_place → Takes on_place (deposited deposit (terms_of on_place)) on_deposit → LeastOf on_deposit premium.ticks → Takes on_deposit (priced_at premium.ticks (terms_of on_deposit)) on_price → Issues on_price made → IsIssued basis plan start deposit made
+  is_issued basis plan start deposit premium made on begins placed laid least priced issues =
       let c : Transitions = b.meaning basis in
       let x : Terms = terms_at (p.payments plan) start deposit premium.ticks in
       let y : Terms = terms_at (p.payments plan) start deposit made.premium.ticks in
@@ -64,12 +62,13 @@ module _ {B P : Type 0} {b : BasisGhosts B} {p : PlanGhosts P} (fresh on_place o
       let here : on_price.basis.now ≡ basis = ap (λ r. r.now) priced.same_basis ∙ there in
       let on_deposit_terms : terms_of on_deposit ≡ deposited deposit (placed_in start (begins_with (p.payments plan))) = laid.takes ∙ ap (deposited deposit) (placed.takes ∙ ap (placed_in start) begins) in
       let terms : terms_of on_price ≡ x = priced.takes ∙ ap (priced_at premium.ticks) on_deposit_terms in
-      let same_terms : x ≡ y = ap (λ n. terms_at (p.payments plan) start deposit n.ticks) (sym same_premium) in
+      let same_terms : x ≡ y = ap (terms_at (p.payments plan) start deposit) (sym (issues.premium ∙ ap (λ t. t.premium) terms)) in
       let is_priced : IsPriced c x = subst (λ z. IsPriced (b.meaning z) x) there (subst (λ t. IsPriced (basis_proposed on_deposit) (priced_at premium.ticks t)) on_deposit_terms least) in
       let are_terms : AreTerms c x = subst (λ z. AreTerms (b.meaning z) x) here (subst (AreTerms (basis_proposed on_price)) terms issues.are_terms) in
       record {
-        same_basis = ap (λ m. m.basis.now) same_contract ∙ issues.same_basis ∙ here;
+        same_basis = issues.same_basis ∙ here;
         issued_at = record { terms = subst (AreTerms c) same_terms are_terms; priced = subst (IsPriced c) same_terms is_priced };
-        stands = ap standing same_contract ∙ issues.stands ∙ ap begun (terms ∙ same_terms);
-        opening = same_result ∙ issues.opening ∙ ap (λ z. opening_result (b.meaning z) (terms_of on_price)) here ∙ ap (opening_result c) (terms ∙ same_terms);
+        stands = issues.stands ∙ ap begun (terms ∙ same_terms);
+        reserve = issues.reserve ∙ ap (λ z. reserve_at (b.meaning z) (begun (terms_of on_price))) here ∙ ap (λ t. reserve_at c (begun t)) (terms ∙ same_terms);
+        opening = issues.opening ∙ ap (λ z. opening_result (b.meaning z) (terms_of on_price)) here ∙ ap (opening_result c) (terms ∙ same_terms);
       }

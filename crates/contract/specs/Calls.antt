@@ -6,7 +6,7 @@ use Rattle.plan.specs.declared.Plan.{Ghosts as PlanGhosts}
 use Rattle.valuation.specs.Operations.{Operations}
 use Rattle.contract.specs.ContractStates.{basis_of, standing, ledger_of, year_told, alteration_told}
 use Rattle.contract.specs.Ledgers.{Close, Alter, AskReserve, AskSpan, AskCourse, Closed, Altered, IsWorth, LiesWithin, Written, NotWritten, Refused}
-use Rattle.contract.specs.Runs.{Call, Ask, AskFigure, Reply, Told, HasFigure, Turn, Runs}
+use Rattle.contract.specs.Runs.{Call, Ask, AskFigure, Reply, Told, HasFigure, Turn, Runs, figure_at}
 use Rattle.contract.specs.Standings.{Books}
 use Rattle.contract.specs.declared.answer.Answer.{Answer}
 use Rattle.contract.specs.declared.answer.Answer.TheVariants.{Closed as ClosedAnswer, Altered as AlteredAnswer, Reserve as ReserveAnswer, Span as SpanAnswer, Figure as FigureAnswer, Course as CourseAnswer, TooShort as TooShortAnswer, Refused as RefusedAnswer}
@@ -34,15 +34,22 @@ said (TooShortAnswer fault column) = Told (NotWritten fault (vec_items column))
 said (RefusedAnswer fault) = Told (Refused fault)
 
 module _ {F B P : Type 0} {b : BasisGhosts B} {p : PlanGhosts P} (v : Operations F) where
-  -- one call takes a contract, whatever its books, from where it stands to where it stands then, in the same basis
-  pub record Turns (old : Contract B P b p) (q : Call) (a : Reply F) (new : Contract B P b p) : Type 0 where
+  -- the figure of a contract where it stands
+  abbrev pub valued_in : Contract B P b p → F
+  valued_in k = figure_at (basis_of k) v (standing k)
+
+  -- one call takes a contract, whatever its books, from where it stands to where it stands then, in
+  -- the same basis
+  pub record Turns (old : Contract B P b p) (q : Call) (a : Reply F)
+      (new : Contract B P b p) : Type 0 where
     pub same_basis : new.basis ≡ old.basis
     pub turn :
         (books : Books) → (then : Books) ×
         Turn (basis_of old) v (ledger_of (standing old) books) q a (ledger_of (standing new) then)
 
   -- so do some requests, and their answers stand behind those that were there
-  pub record Goes (old : Contract B P b p) (requests : List (Request P)) (before after : List (Answer F)) (new : Contract B P b p) : Type 0 where
+  pub record Goes (old : Contract B P b p) (requests : List (Request P))
+      (before after : List (Answer F)) (new : Contract B P b p) : Type 0 where
     pub same_basis : new.basis ≡ old.basis
     pub answers : List (Answer F)
     pub behind : after ≡ before ++ answers

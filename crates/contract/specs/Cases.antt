@@ -1,4 +1,5 @@
--- A case: what is proposed, what is asked of the contract then, and what comes of it. Assumes nothing.
+-- A case: what is proposed, what is asked of the contract then, and what comes of it. Assumes
+-- nothing.
 use Rattle.std.specs.Prelude.{◌≡◌, ℕ, ◌+◌, ◌<◌, Bool, List, ◌++◌, length, map, ℤ, Result, Ok, Err, vec_items, vec_len, vec_capacity}
 use Rattle.std.specs.Global.{Vec}
 use Rattle.units.specs.declared.failure.Failure.{Failure}
@@ -13,7 +14,7 @@ use Rattle.contract.specs.Calls.{asked, said}
 use Rattle.contract.specs.ContractStates.{basis_of, standing, ledger_of, leaving_told}
 use Rattle.contract.specs.Promises.{IsWholeRun, Settled}
 use Rattle.contract.specs.Runs.{Ends, End as LedgerEnd, Stands as LedgerStands, Left as LedgerLeft}
-use Rattle.contract.specs.Standings.{Terms, Books, AreTerms, IsPriced, NotIssued, begun, opening_result}
+use Rattle.contract.specs.Standings.{Terms, Books, AreTerms, IsPriced, NotIssued, begun, opening_result, reserve_at}
 use Rattle.contract.specs.declared.answer.Answer.{Answer}
 use Rattle.contract.specs.declared.case.Case.{Case}
 use Rattle.contract.specs.declared.case.End.{End}
@@ -43,8 +44,8 @@ terms_of_case payments case premium =
     terms_at (payments case.plan) case.start case.deposit premium
 
 module _ {P : Type 0} (c : Transitions) (payments : P → Payments) (case : Case P) where
-  -- nothing is issued; or there is no memory for the answers, which can be only of a case that is issued, and only where there
-  -- was no room for them
+  -- nothing is issued; or there is no memory for the answers, which can be only of a case that is
+  -- issued, and only where there was no room for them
   pub data NotRun (capacity taken : ℕ) : Failure → Type 0 where
     not_issued :
         {fault : Fault} → NotIssued c (payments case.plan) case.start case.deposit fault →
@@ -55,13 +56,18 @@ module _ {P : Type 0} (c : Transitions) (payments : P → Payments) (case : Case
 
 module _ {B P : Type 0} {b : BasisGhosts B} {p : PlanGhosts P} where
   -- a contract on a basis, as it is issued at the least premium
-  pub record IsIssued (basis : B) (plan : P) (start : ℕ) (deposit : ℤ) (issued : Issued B P b p) : Type 0 where
+  pub record IsIssued (basis : B) (plan : P) (start : ℕ) (deposit : ℤ)
+      (issued : Issued B P b p) : Type 0 where
     pub same_basis : issued.contract.basis.now ≡ basis
     pub issued_at :
         IsIssuedAt (b.meaning basis) (p.payments plan) start deposit issued.premium.ticks
     pub stands :
         standing issued.contract
         ≡ begun (terms_at (p.payments plan) start deposit issued.premium.ticks)
+    pub reserve :
+        issued.reserve
+        ≡ reserve_at (b.meaning basis)
+        (begun (terms_at (p.payments plan) start deposit issued.premium.ticks))
     pub opening :
         issued.opening_result
         ≡ opening_result (b.meaning basis)
@@ -73,8 +79,8 @@ module _ {B P : Type 0} {b : BasisGhosts B} {p : PlanGhosts P} where
   IssuesOn basis plan start deposit (Err fault) =
       NotIssued (b.meaning basis) (p.payments plan) start deposit fault
 
-  -- the engine's end of a run is that of the ledger: a contract on its basis that stands where the ledger does, or what was
-  -- told on leaving
+  -- the engine's end of a run is that of the ledger: a contract on its basis that stands where the
+  -- ledger does, or what was told on leaving
   abbrev pub EndsAs : B → End B P b p → LedgerEnd → Type 0
   EndsAs basis (Stands contract) (LedgerStands l) =
       (contract.basis.now ≡ basis) × (standing contract ≡ l.stands)
@@ -93,8 +99,8 @@ module _ {B P : Type 0} {b : BasisGhosts B} {p : PlanGhosts P} where
     abbrev pub terms_of_run : Run B P b p → Terms
     terms_of_run run = terms_of_case p.payments case run.premium.ticks
 
-    -- the contract was issued at the least premium, gave its answers behind those that were there, and the run has come to
-    -- its end, with books that balance and are what it answered
+    -- the contract was issued at the least premium, gave its answers behind those that were there,
+    -- and the run has come to its end, with books that balance and are what it answered
     pub record IsRun (before after : List (Answer F)) (run : Run B P b p) : Type 0 where
       pub priced : IsPriced (b.meaning basis) (terms_of_run run)
       pub opening : run.opening_result ≡ opening_result (b.meaning basis) (terms_of_run run)

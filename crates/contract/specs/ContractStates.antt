@@ -70,14 +70,17 @@ module _ {B P : Type 0} {b : BasisGhosts B} {p : PlanGhosts P} where
     number = k.number;
   }
 
-  -- an entry takes a contract, whatever its books, from where it stands to where it stands then, in the same basis
-  pub record Enters (old : Contract B P b p) (q : Request) (a : Answer) (new : Contract B P b p) : Type 0 where
+  -- an entry takes a contract, whatever its books, from where it stands to where it stands then, in
+  -- the same basis
+  pub record Enters (old : Contract B P b p) (q : Request) (a : Answer)
+      (new : Contract B P b p) : Type 0 where
     pub same_basis : new.basis ≡ old.basis
     pub entry :
         (books : Books) → (then : Books) ×
         Entry (basis_of old) (ledger_of (standing old) books) q a (ledger_of (standing new) then)
 
-  -- leaving takes a contract, whatever its books, to its end: what it tells is posted, and nothing is carried
+  -- leaving takes a contract, whatever its books, to its end: what it tells is posted, and nothing
+  -- is carried
   abbrev pub Leaves : Contract B P b p → LeftStruct → Type 0
   Leaves k left =
       (books : Books) →

@@ -1,5 +1,5 @@
--- The ledger of a contract: what is asked of it, what it answers, and how it stands then. It is drawn up from what issuing was
--- given and from what is asked alone. Assumes nothing.
+-- The ledger of a contract: what is asked of it, what it answers, and how it stands then. It is
+-- drawn up from what issuing was given and from what is asked alone. Assumes nothing.
 use Rattle.std.specs.Prelude.{◌≡◌, ℕ, ◌<◌, ◌≤◌, List, length, ℤ, pos, negsuc, ◌<ℤ◌, ◌≤ℤ◌}
 use Rattle.units.specs.Faults.{entry_fault}
 use Rattle.units.specs.Ranges.{limit}
@@ -104,8 +104,8 @@ module _ (c : Transitions) where
         {old new : List ℤ} → Writes c l.stands.plan l.stands.premium l.stands.year old new →
         Accepted l (AskCourse old) (Written new) l
 
-  -- an entry: a request is refused for its first objection, at the year and state of the contract, and nothing changes; or
-  -- there is none, and it is accepted
+  -- an entry: a request is refused for its first objection, at the year and state of the contract,
+  -- and nothing changes; or there is none, and it is accepted
   pub data Entry (l : Ledger) : Request → Answer → Ledger → Type 0 where
     refused :
         {q : Request} {number : ℕ} → FirstObjection l.stands q number →

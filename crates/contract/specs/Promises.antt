@@ -46,20 +46,24 @@ module _ (c : Transitions) where
       (i u : ℕ) → i < c.states → less.year ≤ u → u ≤ c.years →
       EndByEnd ends (value less.plan less.premium i u) (value more.plan more.premium i u)
 
-  -- of two contracts in one state and year, the one that pays at least as much, at a premium that is due alike and no higher
+  -- of two contracts in one state and year, the one that pays at least as much, at a premium that
+  -- is due alike and no higher
   pub record Outpays (less more : Standing) : Type 0 where
     pub state : less.state ≡ more.state
     pub year : less.year ≡ more.year
     pub pays : PaysAtLeastAsMuch c less.year less.plan less.premium more.plan more.premium
 
   module _ {F : Type 0} (v : Operations F) where
-    -- a contract was issued on the terms x, answered every call, and has come to stand as the ledger says
-    pub record ComesTo (x : Terms) (qs : List Call) (rs : List (Reply F)) (l : Ledger) : Type 0 where
+    -- a contract was issued on the terms x, answered every call, and has come to stand as the
+    -- ledger says
+    pub record ComesTo (x : Terms) (qs : List Call) (rs : List (Reply F))
+        (l : Ledger) : Type 0 where
       pub terms : AreTerms c x
       pub runs : Runs c v (issued c x) qs rs l
 
     -- a whole run, to its end
-    pub record IsWholeRun (x : Terms) (qs : List Call) (rs : List (Reply F)) (leaves : Bool) (e : End) : Type 0 where
+    pub record IsWholeRun (x : Terms) (qs : List Call) (rs : List (Reply F))
+        (leaves : Bool) (e : End) : Type 0 where
       pub ledger : Ledger
       pub comes_to : ComesTo x qs rs ledger
       pub ends : Ends c ledger leaves e
@@ -70,7 +74,8 @@ module _ (c : Transitions) where
       pub span : NowhereLower span_ends (ends c) less more
       pub figure : NowhereLower figure_ends (figure v c) less more
 
-    -- for every issue and every list of calls, accepted or refused, in any order, many or none, and left at last or not
+    -- for every issue and every list of calls, accepted or refused, in any order, many or none, and
+    -- left at last or not
     pub record Promise : Type 0 where
       pub every_contract_is_sound :
           (x : Terms) (qs : List Call) (rs : List (Reply F)) (l : Ledger) →

@@ -12,7 +12,7 @@ use Rattle.plan.specs.declared.Plan.{Ghosts as PlanGhosts}
 use Rattle.valuation.specs.Premiums.{LeastPremium, NoPremium}
 use Rattle.contract.specs.ContractStates.{standing}
 use Rattle.contract.specs.Standings.{Terms, AreTerms, issued}
-use Rattle.contract.specs.declared.contract.Contract.{Contract}
+use Rattle.contract.specs.declared.case.Issued.{Issued}
 use Rattle.contract.specs.declared.proposal.Proposal.{Proposal}
 
 -- the terms of a new proposal, and terms with one of them set
@@ -62,19 +62,22 @@ module _ {B P : Type 0} {b : BasisGhosts B} {p : PlanGhosts P} where
     pub takes : terms_of new ≡ terms
 
   -- a rule is told at year 0 and the start state, and nothing changes
-  pub record Refuses (old : Proposal B P b p) (number : ℕ) (fault : Fault) (new : Proposal B P b p) : Type 0 where
+  pub record Refuses (old : Proposal B P b p) (number : ℕ) (fault : Fault)
+      (new : Proposal B P b p) : Type 0 where
     pub told : fault ≡ entry_fault number ContractLayer 0 old.start
     pub unchanged : new ≡ old
 
   -- placing: in a state of the basis, or else 14
-  abbrev pub Places : {X : Type 0} → Proposal B P b p → ℕ → Result X Fault → Proposal B P b p → Type 0
+  abbrev pub Places :
+      {X : Type 0} → Proposal B P b p → ℕ → Result X Fault → Proposal B P b p → Type 0
   Places old start (Ok _) new =
       (start < (basis_proposed old).states) × Takes old (placed_in start (terms_of old)) new
   Places old start (Err fault) new =
       ((basis_proposed old).states ≤ start) × Refuses old 14 fault new
 
   -- depositing: an amount from nought to the limit, or else 15
-  abbrev pub Deposits : {X : Type 0} → Proposal B P b p → ℤ → Result X Fault → Proposal B P b p → Type 0
+  abbrev pub Deposits :
+      {X : Type 0} → Proposal B P b p → ℤ → Result X Fault → Proposal B P b p → Type 0
   Deposits old ticks (Ok _) new =
       WithinLimit ticks × Takes old (deposited ticks (terms_of old)) new
   Deposits old ticks (Err fault) new = (WithinLimit ticks → ⊥) × Refuses old 15 fault new
@@ -93,9 +96,12 @@ module _ {B P : Type 0} {b : BasisGhosts B} {p : PlanGhosts P} where
       LeastOf old premium.ticks × Takes old (priced_at premium.ticks (terms_of old)) new
   Prices old (Err fault) new = NoneOf old fault × Refuses old 20 fault new
 
-  -- issuing: a contract on the same basis, which stands where the ledger of such terms begins, and the opening result
-  pub record Issues (o : Proposal B P b p) (k : Contract B P b p) (result : ℤ) : Type 0 where
-    pub same_basis : k.basis.now ≡ o.basis.now
+  -- issuing: a contract on the same basis, which stands where the ledger of such terms begins, with
+  -- its premium and reserve and the opening result
+  pub record Issues (o : Proposal B P b p) (made : Issued B P b p) : Type 0 where
+    pub same_basis : made.contract.basis.now ≡ o.basis.now
     pub are_terms : AreTerms (basis_proposed o) (terms_of o)
-    pub stands : standing k ≡ (issued (basis_proposed o) (terms_of o)).stands
-    pub opening : result ≡ (issued (basis_proposed o) (terms_of o)).books.results
+    pub stands : standing made.contract ≡ (issued (basis_proposed o) (terms_of o)).stands
+    pub premium : made.premium.ticks ≡ (terms_of o).premium
+    pub reserve : made.reserve ≡ (issued (basis_proposed o) (terms_of o)).books.carried
+    pub opening : made.opening_result ≡ (issued (basis_proposed o) (terms_of o)).books.results

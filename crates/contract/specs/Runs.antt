@@ -31,7 +31,8 @@ leaving_at (Stands l) = record { paid = pos 0; result = pos 0 }
 leaving_at (Left k b) = k
 
 module _ (c : Transitions) where
-  -- the last step of a run: nothing more is asked, or the contract is left and nothing is carried any more
+  -- the last step of a run: nothing more is asked, or the contract is left and nothing is carried
+  -- any more
   pub data Ends (l : Ledger) : Bool → End → Type 0 where
     stands : Ends l false (Stands l)
     leaves :

@@ -1,4 +1,5 @@
--- Where a contract stands, what issuing is given, and the books that are kept of a contract. Assumes nothing.
+-- Where a contract stands, what issuing is given, and the books that are kept of a contract.
+-- Assumes nothing.
 use Rattle.std.specs.Prelude.{◌≡◌, ℕ, ◌+◌, ◌<◌, ◌≤◌, ℤ, pos, ◌+ℤ◌, ◌-ℤ◌}
 use Rattle.units.specs.Faults.{entry_fault}
 use Rattle.units.specs.Ranges.{limit, WithinLimit}
@@ -52,7 +53,8 @@ posted b x carried = record {
   carried = carried;
 }
 
--- the deposit and all that has come in, less what was paid, is what was posted as results and what is still carried
+-- the deposit and all that has come in, less what was paid, is what was posted as results and what
+-- is still carried
 abbrev pub Balances : ℤ → Books → Type 0
 Balances deposit b =
     ((deposit +ℤ b.premiums) +ℤ b.interest) -ℤ b.benefits ≡ b.results +ℤ b.carried
@@ -116,8 +118,8 @@ module _ (c : Transitions) where
   abbrev pub IsPriced : Terms → Type 0
   IsPriced x = LeastPremium c x.plan x.start 0 x.deposit x.premium
 
-  -- why nothing is issued on a plan, in a start state and on a deposit: a proposal, which begins in state 0, is placed,
-  -- then it is deposited on, then priced
+  -- why nothing is issued on a plan, in a start state and on a deposit: a proposal, which begins in
+  -- state 0, is placed, then it is deposited on, then priced
   pub data NotIssued (plan : Payments) (start : ℕ) (deposit : ℤ) : Fault → Type 0 where
     start_outside : c.states ≤ start → NotIssued plan start deposit (entry_fault 14 Contract 0 0)
     deposit_outside :

@@ -10,7 +10,8 @@ use Rattle.contract.specs.Runs.{Reply, Told, HasFigure, End, Stands, Left, books
 abbrev pub no_posting : Posting
 no_posting = record { premium = pos 0; interest = pos 0; benefits = pos 0; result = pos 0 }
 
--- what an answer posts: closings and alterations that were accepted do, questions and refusals do not
+-- what an answer posts: closings and alterations that were accepted do, questions and refusals do
+-- not
 abbrev pub posting_of : Answer → Posting
 posting_of (Closed k) = closing_posting k
 posting_of (Altered k) = alteration_posting k
@@ -59,7 +60,8 @@ module _ {F : Type 0} where
   carried_at_end opening rs (Stands l) = fold carried_on opening rs
   carried_at_end opening rs (Left k b) = pos 0
 
-  -- books are what the answers add up to, with the opening result, the opening reserve and what leaving told
+  -- books are what the answers add up to, with the opening result, the opening reserve and what
+  -- leaving told
   pub record AddUp (result reserve : ℤ) (rs : List (Reply F)) (e : End) : Type 0 where
     pub premiums : (books_at e).premiums ≡ int_sum_by (λ r. (posting_in r).premium) rs
     pub interest : (books_at e).interest ≡ int_sum_by (λ r. (posting_in r).interest) rs

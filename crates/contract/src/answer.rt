@@ -3,13 +3,15 @@ use units::fault::Fault;
 use units::premium::Premium;
 use valuation::span::ends::Ends;
 
-// A year that was closed, under the number of this closing. Whoever adds up what is told keeps the books. Amounts are ticks.
+// A year that was closed, under the number of this closing. Whoever adds up what is told keeps the
+// books. Amounts are ticks.
 #[derive(Clone, Copy, PartialEq, Eq, Debug)]
 pub struct Closed {
     pub number: u16,
     // The year that was closed.
     pub year: usize,
-    // The premium that was taken, and the benefits that were paid at the start of the year and for the move at its end.
+    // The premium that was taken, and the benefits that were paid at the start of the year and for
+    // the move at its end.
     pub premium: u64,
     pub benefits: u64,
     pub interest_earned: i64,

@@ -17,11 +17,12 @@ pub struct Case<P> {
     pub leaves: bool,
 }
 
-// A contract as it is issued, with its premium and the deposit less its reserve.
+// A contract as it is issued, with its premium, its reserve, and the deposit less that reserve.
 #[derive(Drop)]
 pub struct Issued<'a, B: Basis, P: Plan> {
     pub contract: Contract<'a, B, P>,
     pub premium: Premium,
+    pub reserve: i64,
     pub opening_result: i64,
 }
 

@@ -30,13 +30,8 @@ pub fn issue<'a, B: Basis, P: Plan + Drop>(
     let mut proposal = Proposal::new(basis, plan);
     proposal.place(start)?;
     proposal.deposit(deposit)?;
-    let premium = proposal.price()?;
-    let (contract, opening_result) = proposal.issue();
-    Ok(Issued {
-        contract,
-        premium,
-        opening_result,
-    })
+    let _premium = proposal.price()?;
+    Ok(proposal.issue())
 }
 
 // Answers every request in its order.
@@ -67,15 +62,16 @@ fn end_of<B: Basis, P: Plan + Drop>(contract: Contract<'_, B, P>, leaves: bool) 
     }
 }
 
-// Issues the contract of a case at its least premium, and answers every request in its order, each acting on the contract as it stands
-// then; the answers go behind those that are there.
+// Issues the contract of a case at its least premium, and answers every request in its order, each
+// acting on the contract as it stands then; the answers go behind those that are there.
 pub fn run<'a, V: Valuation, B: Basis, P: Plan + Drop>(
     valuation: &V,
     basis: &'a B,
     case: Case<P>,
     answers: &mut Vec<Answer<V::Figure>>,
 ) -> Result<Run<'a, B, P>, Failure>
-    ensures answer { RunsCase (V.operations valuation.now) basis.now case answers.old answers.new result }
+    ensures answer { RunsCase (V.operations valuation.now)
+        basis.now case answers.old answers.new result }
     ensures unchanged { OnErr result (vec_items answers.new ≡ vec_items answers.old) }
     ensures promise { Promise (B.meaning basis.now) V.ends (V.operations valuation.now) }
     ensures worked { WorkedRun }
@@ -91,6 +87,7 @@ pub fn run<'a, V: Valuation, B: Basis, P: Plan + Drop>(
         mut contract,
         premium,
         opening_result,
+        ..
     } = issue(basis, plan, start, deposit)?;
     answers.reserve(requests.len())?;
     answer_all(valuation, &mut contract, requests, answers);

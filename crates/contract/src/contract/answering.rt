@@ -15,7 +15,8 @@ impl<'a, B: Basis, P: Plan + Drop> Contract<'a, B, P> {
         valuation: &V,
         request: Request<P>,
     ) -> Answer<V::Figure>
-        ensures { Turns (V.operations valuation.now) self.old (asked P.payments request) (said result) self.new }
+        ensures { Turns (V.operations valuation.now)
+            self.old (asked P.payments request) (said result) self.new }
     {
         match request {
             Request::Close { end, rate } => match self.close(end, rate) {

@@ -5,12 +5,12 @@ ghost use Rattle.units.specs.Near.{Within};
 ghost use Rattle.units.specs.Rules.{rule_number, rule_layer};
 ghost use Rattle.valuation.specs.Means.{mean, mean_ends};
 ghost use Rattle.valuation.specs.SpanOperations.{span, span_ends};
-ghost use Rattle.contract.specs.Calls.{Turns};
+ghost use Rattle.contract.specs.Calls.{Turns, valued_in};
 ghost use Rattle.contract.specs.ContractStates.{basis_of, standing, Enters, course_said};
 ghost use Rattle.contract.specs.ContractStates.{IsNearExact, EnclosesReserve};
 ghost use Rattle.contract.specs.Ledgers.{AskReserve, AskSpan, AskCourse, IsWorth, LiesWithin};
 ghost use Rattle.contract.specs.Promises.{Promise};
-ghost use Rattle.contract.specs.Runs.{AskFigure, HasFigure, figure_at};
+ghost use Rattle.contract.specs.Runs.{AskFigure, HasFigure};
 ghost use Rattle.contract.specs.Standings.{reserve_at};
 
 use super::Contract;
@@ -28,7 +28,8 @@ use valuation::span::span;
 impl<'a, B: Basis, P: Plan> Contract<'a, B, P> {
     // The breach of a rule where the contract stands.
     pub(super) fn fault(&self, rule: Rule) -> Fault
-        ensures { result ≡ entry_fault (rule_number rule) (rule_layer rule) self.now.year self.now.state }
+        ensures { result
+            ≡ entry_fault (rule_number rule) (rule_layer rule) self.now.year self.now.state }
     {
         Fault::breach(rule, self.year, self.state)
     }
@@ -55,8 +56,9 @@ impl<'a, B: Basis, P: Plan> Contract<'a, B, P> {
 
     // What it is valued at in any valuation.
     pub fn figure<V: Valuation>(&self, valuation: &V) -> V::Figure
-        ensures turn { Turns (V.operations valuation.now) self.now AskFigure (HasFigure result) self.now }
-        ensures value { result ≡ figure_at (basis_of self.now) (V.operations valuation.now) (standing self.now) }
+        ensures turn { Turns (V.operations valuation.now)
+            self.now AskFigure (HasFigure result) self.now }
+        ensures value { result ≡ valued_in (V.operations valuation.now) self.now }
         ensures promise { Promise (basis_of self.now) V.ends (V.operations valuation.now) }
     {
         let (state, year) = (self.state, self.year);
@@ -65,7 +67,8 @@ impl<'a, B: Basis, P: Plan> Contract<'a, B, P> {
 
     // Writes the course from the contract's year on into the front of the column.
     pub fn course(&self, column: &mut [i64]) -> Result<(), Fault>
-        ensures entry { Enters self.now (AskCourse column.old) (course_said result column.new) self.now }
+        ensures entry { Enters self.now
+            (AskCourse column.old) (course_said result column.new) self.now }
         ensures unchanged { OnErr result (column.new ≡ column.old) }
         ensures length { length column.new ≡ length column.old }
         ensures promise { Promise (basis_of self.now) mean_ends mean }

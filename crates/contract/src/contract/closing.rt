@@ -33,8 +33,8 @@ fn interest_earned(amount: i64, rate: i64) -> i64
     nearest(amount * rate)
 }
 
-// The results of a closing, on interest and on risk: from the pair of discounted join and join, the reserve of the end state a year
-// later, the benefit for the move to it and the interest earned.
+// The results of a closing, on interest and on risk: from the pair of discounted join and join, the
+// reserve of the end state a year later, the benefit for the move to it and the interest earned.
 fn results(pair: (i64, i64), later: i64, benefit: u64, earned: i64) -> (i64, i64)
     requires discounted { Within 5000000000000 pair.0 }
     requires join { Within 5000000000000 pair.1 }
@@ -116,7 +116,8 @@ impl<'a, B: Basis, P: Plan> Contract<'a, B, P> {
         }
     }
 
-    // Closes the year: the contract is found in the end state, and what it set aside has earned the rate, in parts of a million.
+    // Closes the year: the contract is found in the end state, and what it set aside has earned the
+    // rate, in parts of a million.
     pub fn close(&mut self, end: usize, rate: i64) -> Result<Closed, Fault>
         ensures entry { Enters self.old (Close end rate) (closing_said result) self.new }
         ensures moves { OnOk result (standing self.new ≡ moved (standing self.old) end) }

@@ -9,7 +9,8 @@ use basis::Basis;
 use plan::Plan;
 
 impl<'a, B: Basis, P: Plan + Drop> Contract<'a, B, P> {
-    // Uses the contract up: its reserve is paid, where it is above nought, and nothing is carried any more.
+    // Uses the contract up: its reserve is paid, where it is above nought, and nothing is carried
+    // any more.
     pub fn leave(self) -> Left
         ensures leaves { Leaves self.entry result }
         ensures promise { Promise (basis_of self.entry) mean_ends mean }

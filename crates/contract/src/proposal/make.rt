@@ -8,6 +8,7 @@ ghost use Rattle.contract.specs.Proposals.{basis_proposed, terms_of, begins_with
 ghost use Rattle.contract.specs.Proposals.{Places, Deposits, LeastOf, NoneOf, Prices, Issues};
 
 use super::Proposal;
+use crate::case::Issued;
 use crate::contract::Contract;
 use basis::Basis;
 use plan::Plan;
@@ -80,9 +81,10 @@ impl<'a, B: Basis, P: Plan + Drop> Proposal<'a, B, P> {
         Ok(premium)
     }
 
-    // Issues the contract at the premium that the proposal bears, and posts the deposit less the reserve.
-    pub fn issue(self) -> (Contract<'a, B, P>, i64)
-        ensures issues { Issues self.entry result.0 result.1 }
+    // Issues the contract at the premium that the proposal bears, and posts the deposit less the
+    // reserve.
+    pub fn issue(self) -> Issued<'a, B, P>
+        ensures issues { Issues self.entry result }
         ensures promise { Promise (basis_proposed self.entry) mean_ends mean }
     {
         let Proposal {
@@ -93,7 +95,12 @@ impl<'a, B: Basis, P: Plan + Drop> Proposal<'a, B, P> {
             premium,
         } = self;
         let contract = Contract::issued(basis, plan, premium, start);
-        let result = deposit.ticks() as i64 - contract.reserve();
-        (contract, result)
+        let reserve = contract.reserve();
+        Issued {
+            contract,
+            premium,
+            reserve,
+            opening_result: deposit.ticks() as i64 - reserve,
+        }
     }
 }

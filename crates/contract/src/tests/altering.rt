@@ -3,7 +3,8 @@ use super::{fault, issued, results, two_years};
 use plan::endowment::Endowment;
 use std::test::Fail;
 
-// After a year, alive, the reserve is 447,513. A plan over both years is worth nine tenths of its sum less the premium.
+// After a year, alive, the reserve is 447,513. A plan over both years is worth nine tenths of its
+// sum less the premium.
 #[test]
 fn takes_the_least_premium_that_the_old_reserve_covers(rt: HostRuntime) -> Result<(), Fail> {
     let table = two_years(&rt)?;
@@ -51,7 +52,8 @@ fn keeps_the_old_plan_where_no_premium_will_do(rt: HostRuntime) -> Result<(), Fa
     Ok(())
 }
 
-// The deposit of 819,005 is above the reserve of 819,000. The new plan, at 819,002, would be covered by the one and not by the other.
+// The deposit of 819,005 is above the reserve of 819,000. The new plan, at 819,002, would be
+// covered by the one and not by the other.
 #[test]
 fn asks_the_reserve_and_not_the_deposit(rt: HostRuntime) -> Result<(), Fail> {
     let table = two_years(&rt)?;

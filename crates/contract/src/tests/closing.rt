@@ -3,7 +3,8 @@ use super::{fault, issued, results, two_years};
 use plan::endowment::Endowment;
 use std::test::Fail;
 
-// In year 0, W is 452,486 and E 502,762. A quarter of W ends in a half, which goes upwards below nought too.
+// In year 0, W is 452,486 and E 502,762. A quarter of W ends in a half, which goes upwards below
+// nought too.
 #[test]
 fn posts_the_results_of_a_year(rt: HostRuntime) -> Result<(), Fail> {
     let table = two_years(&rt)?;
@@ -30,7 +31,8 @@ fn posts_the_results_of_a_year(rt: HostRuntime) -> Result<(), Fail> {
     Ok(())
 }
 
-// A refused closing gets the lowest number that stands against it, and changes nothing: the next one is number 1 in the same year.
+// A refused closing gets the lowest number that stands against it, and changes nothing: the next
+// one is number 1 in the same year.
 #[test]
 fn refuses_the_alive_in_order(rt: HostRuntime) -> Result<(), Fail> {
     let table = two_years(&rt)?;

@@ -1,5 +1,6 @@
-// Contracts on a case worked by hand: two years, a tenth and then a fifth of the living die, a factor of nine tenths, an endowment of
-// 1,000,000 ticks over both years with the premium due in both.
+// Contracts on a case worked by hand: two years, a tenth and then a fifth of the living die, a
+// factor of nine tenths, an endowment of 1,000,000 ticks over both years with the premium due in
+// both.
 mod altering;
 mod asking;
 mod closing;
@@ -34,8 +35,7 @@ pub(crate) fn issued<'a>(
     proposal.place(start)?;
     proposal.deposit(deposit)?;
     let _premium = proposal.price()?;
-    let (contract, _result) = proposal.issue();
-    Ok(contract)
+    Ok(proposal.issue().contract)
 }
 
 pub(crate) fn fault(number: u8, year: usize, state: usize) -> Fault {

@@ -1,5 +1,6 @@
-// The numbers of closings and alterations, up to the last. On a table of one year in which nobody dies, an endowment of 1,000,000 ticks
-// costs 900,000, and altering to the same again changes only the number.
+// The numbers of closings and alterations, up to the last. On a table of one year in which nobody
+// dies, an endowment of 1,000,000 ticks costs 900,000, and altering to the same again changes only
+// the number.
 use super::{fault, issued, results};
 use crate::answer::Altered;
 use crate::contract::Contract;

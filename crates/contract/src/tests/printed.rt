@@ -11,8 +11,9 @@ fn goes_as_printed(rt: HostRuntime) -> Result<(), Fail> {
     let mut proposal = Proposal::new(&table, Endowment::new(1_000_000, 2, 2)?);
     proposal.deposit(0)?;
     assert_eq!(rt; proposal.price()?.ticks(), 452_487);
-    let (mut contract, result) = proposal.issue();
-    assert_eq!(rt; (contract.reserve(), result), (-1, 1));
+    let issued = proposal.issue();
+    assert_eq!(rt; (issued.reserve, issued.opening_result), (-1, 1));
+    let mut contract = issued.contract;
     assert_eq!(rt; contract.close(0, 120_000), Ok(lived()));
     assert_eq!(rt; contract.reserve(), 447_513);
     assert_eq!(rt; contract.close(1, -10_000), Ok(died()));

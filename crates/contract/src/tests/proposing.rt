@@ -34,7 +34,8 @@ fn starts_only_in_a_state_of_the_basis(rt: HostRuntime) -> Result<(), Fail> {
 #[test]
 fn takes_deposits_from_nought_to_the_limit(rt: HostRuntime) -> Result<(), Fail> {
     let table = two_years(&rt)?;
-    // the deposit, whether it is taken, and the opening result with no premium: the reserve is 819,000
+    // the deposit, whether it is taken, and the opening result with no premium: the reserve is
+    // 819,000
     let cases = [
         (0, true, -819_000),
         (10_000_000_000, true, 9_999_181_000),
@@ -48,8 +49,12 @@ fn takes_deposits_from_nought_to_the_limit(rt: HostRuntime) -> Result<(), Fail> 
         proposal.deposit(5)?;
         let expected = if taken { Ok(()) } else { Err(fault(15, 0, 0)) };
         assert_eq!(rt; proposal.deposit(ticks), expected, "{ticks}");
-        let (contract, opening) = proposal.issue();
-        assert_eq!(rt; (contract.reserve(), opening), (819_000, result), "{ticks}");
+        let issued = proposal.issue();
+        assert_eq!(rt;
+            (issued.reserve, issued.opening_result),
+            (819_000, result),
+            "{ticks}"
+        );
     }
     let mut dead = Proposal::new(&table, Endowment::new(1_000_000, 2, 2)?);
     dead.place(1)?;
@@ -80,9 +85,9 @@ fn prices_at_the_least_premium_or_refuses(rt: HostRuntime) -> Result<(), Fail> {
             (Ok(least), Some(ticks)) => assert_eq!(rt; least.ticks(), ticks),
             (refusal, _) => assert_eq!(rt; refusal, Err(fault(20, 0, start))),
         }
-        let (contract, opening) = proposal.issue();
+        let issued = proposal.issue();
         assert_eq!(rt;
-            (contract.reserve(), opening),
+            (issued.reserve, issued.opening_result),
             (reserve, result),
             "{paying} {start} {deposit}"
         );
@@ -97,7 +102,7 @@ fn issues_at_the_premium_that_it_bears(rt: HostRuntime) -> Result<(), Fail> {
     let mut proposal = Proposal::new(&table, Endowment::new(1_000_000, 2, 2)?);
     assert_eq!(rt; proposal.price()?.ticks(), 452_487);
     proposal.deposit(100)?;
-    let (contract, opening) = proposal.issue();
-    assert_eq!(rt; (contract.reserve(), opening), (-1, 101));
+    let issued = proposal.issue();
+    assert_eq!(rt; (issued.reserve, issued.opening_result), (-1, 101));
     Ok(())
 }

@@ -56,7 +56,8 @@ impl Valuation for Undiscounted {
 fn is_valued_as_the_caller_likes(rt: HostRuntime) -> Result<(), Fail> {
     let table = two_years(&rt)?;
     let mut contract = issued(&table, Endowment::new(1_000_000, 2, 2)?, 0, 0)?;
-    // a million in the end, whatever comes, less the premium of a year and nine tenths of that of the next
+    // a million in the end, whatever comes, less the premium of a year and nine tenths of that of
+    // the next
     for figure in [140_275, 547_513, 1_000_000] {
         assert_eq!(rt; contract.figure(&Undiscounted), figure);
         let _closed = contract.close(0, 0);

@@ -19,8 +19,8 @@ returns-in_err-deposit-clause-answer g c =
     let outcome : c.from_residual-in_err-deposit.result ≡ Err c.in_err-deposit.field-0.0 = Prim.search rules in
     rw outcome refused
 
-pub returns-in_err-premium-clause-answer : goal.returns-in_err-premium-clause-answer
-returns-in_err-premium-clause-answer g c =
+pub returns-in_err-_premium-clause-answer : goal.returns-in_err-_premium-clause-answer
+returns-in_err-_premium-clause-answer g c =
     let p = g.P.Plan.payments in
     let begun = c.new-proposal.ensures.terms in
     let placed = c.in_ok-place.ensures.1.takes in
@@ -30,15 +30,15 @@ returns-in_err-premium-clause-answer g c =
     let taken : pos c.deposit.new.self.deposit.ticks ≡ to_z w64 (of_z w64 c.args.deposit) = ap (λ x. x.deposit) deposited in
     let back : to_z w64 (of_z w64 c.args.deposit) ≡ c.args.deposit = Prim.search rules in
     let bound : pos c.deposit.new.self.deposit.ticks ≡ c.args.deposit = taken ∙ back in
-    let refused : NotIssued (g.B.Basis.meaning c.args.basis.now) (p c.args.plan) c.args.start c.args.deposit c.in_err-premium.field-0.0 = not_priced _ _ _ _ _ (p c.deposit.new.self.plan) c.deposit.new.self.start (pos c.deposit.new.self.deposit.ticks) same at bound (Prim.search rules) (Prim.search rules) (Prim.search rules) in
-    let outcome : c.from_residual-in_err-premium.result ≡ Err c.in_err-premium.field-0.0 = Prim.search rules in
+    let refused : NotIssued (g.B.Basis.meaning c.args.basis.now) (p c.args.plan) c.args.start c.args.deposit c.in_err-_premium.field-0.0 = not_priced _ _ _ _ _ (p c.deposit.new.self.plan) c.deposit.new.self.start (pos c.deposit.new.self.deposit.ticks) same at bound (Prim.search rules) (Prim.search rules) (Prim.search rules) in
+    let outcome : c.from_residual-in_err-_premium.result ≡ Err c.in_err-_premium.field-0.0 = Prim.search rules in
     rw outcome refused
 
 pub returns-clause-answer : goal.returns-clause-answer
 returns-clause-answer g c =
     let back : to_z w64 (of_z w64 c.args.deposit) ≡ c.args.deposit = Prim.search rules in
-    is_issued c.new-proposal.result c.place.new.self c.deposit.new.self c.price.new.self c.args.basis.now c.args.plan c.args.start c.args.deposit c.in_ok-premium.premium c.issue-contract.result.0 c.issue-contract.result.1 _
-    (Prim.search rules) c.new-proposal.ensures.terms c.in_ok-place.ensures.1 (rw back at c.in_ok-deposit.ensures.1) c.in_ok-premium.ensures.0 c.in_ok-premium.ensures.1 c.issue-contract.ensures.issues refl refl (Prim.search rules)
+    is_issued c.new-proposal.result c.place.new.self c.deposit.new.self c.price.new.self c.args.basis.now c.args.plan c.args.start c.args.deposit c.in_ok-_premium._premium c.issue.result
+    (Prim.search rules) c.new-proposal.ensures.terms c.in_ok-place.ensures.1 (rw back at c.in_ok-deposit.ensures.1) c.in_ok-_premium.ensures.0 c.in_ok-_premium.ensures.1 c.issue.ensures.issues
 
 pub returns-in_err-place-clause-promise : goal.returns-in_err-place-clause-promise
 returns-in_err-place-clause-promise g c = promised_in_the_mean (g.B.Basis.meaning c.args.basis.now) (g.met.B.Basis.lawful c.args.basis.now)
@@ -46,5 +46,5 @@ returns-in_err-place-clause-promise g c = promised_in_the_mean (g.B.Basis.meanin
 pub returns-in_err-deposit-clause-promise : goal.returns-in_err-deposit-clause-promise
 returns-in_err-deposit-clause-promise g c = promised_in_the_mean (g.B.Basis.meaning c.args.basis.now) (g.met.B.Basis.lawful c.args.basis.now)
 
-pub returns-in_err-premium-clause-promise : goal.returns-in_err-premium-clause-promise
-returns-in_err-premium-clause-promise g c = promised_in_the_mean (g.B.Basis.meaning c.args.basis.now) (g.met.B.Basis.lawful c.args.basis.now)
+pub returns-in_err-_premium-clause-promise : goal.returns-in_err-_premium-clause-promise
+returns-in_err-_premium-clause-promise g c = promised_in_the_mean (g.B.Basis.meaning c.args.basis.now) (g.met.B.Basis.lawful c.args.basis.now)

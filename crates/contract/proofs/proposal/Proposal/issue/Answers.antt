@@ -11,5 +11,7 @@ returns-clause-issues g c = record {
     premium_range = c.args.self.premium.range;
   };
   stands = Prim.search rules;
+  premium = Prim.search rules;
+  reserve = Prim.search rules;
   opening = Prim.search rules;
 }
