@@ -16,7 +16,7 @@ use Rattle.contract.proofs.Totals.{counted}
 use Rattle.contract.proofs.Turns.{turn_some, turn_once, runs_once, runs_on}
 
 -- one ledger has one end
-ends_once : (c : Transitions) (l : Ledger) (leaving : Bool) (e f : End) → Ends c l leaving e → Ends c l leaving f → e ≡ f
+pub ends_once : (c : Transitions) (l : Ledger) (leaving : Bool) (e f : End) → Ends c l leaving e → Ends c l leaving f → e ≡ f
 ends_once c l _ _ _ stands stands = refl
 ends_once c l _ _ _ leaves leaves = refl
 

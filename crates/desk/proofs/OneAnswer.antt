@@ -1,12 +1,15 @@
 -- An input has one answer. Assumes nothing.
-use Rattle.std.proofs.Common.{◌≡◌, ℕ, ◌<◌, List, ◌++◌, pos, Option, Some, None, is_some, refl, sym, ap, ap₂, subst, ◌∙◌, arith}
+use Rattle.std.proofs.Common.{◌≡◌, ℕ, ◌<◌, List, ◌++◌, pos, true, Option, Some, None, is_some, refl, sym, ap, ap₂, subst, ◌∙◌, arith}
 use Rattle.units.specs.declared.fault.Fault.{Fault}
 use Rattle.basis.specs.Transitions.{Transitions}
 use Rattle.plan.specs.Endowments.{endows}
 use Rattle.contract.specs.Cases.{terms_at}
 use Rattle.contract.specs.Ledgers.{Request, Answer, Entry, Closed, Altered, IsWorth, LiesWithin, Written, Refused, NotWritten}
-use Rattle.contract.specs.Standings.{Ledger, begun, issued, opening_result, reserve_at}
+use Rattle.contract.specs.Runs.{Ends, Left, leaving_at}
+use Rattle.contract.specs.Standings.{Ledger, Books, issued}
+use Rattle.contract.specs.Steps.{Leaving}
 use Rattle.contract.proofs.Issuing.{priced_once, issued_or_not, not_issued_once}
+use Rattle.contract.proofs.Promised.{ends_once}
 use Rattle.contract.proofs.Turns.{entry_once}
 use Rattle.sheet.specs.Checks.{first_broken}
 use Rattle.sheet.specs.Faults.{spot_past}
@@ -23,7 +26,7 @@ use Rattle.desk.specs.Commands.{Command, IsCommandLine}
 use Rattle.desk.specs.CommandChecks.{command_checks}
 use Rattle.desk.specs.Inputs.{IsAnswer, too_long, no_sheet, session}
 use Rattle.desk.specs.Replies.{reply_text}
-use Rattle.desk.specs.Sessions.{Does, Replies, Session, told_at, issues, issues_none, closes, closes_not, alters, alters_not, leaves, refuses, does, ends, stops, goes_on}
+use Rattle.desk.specs.Sessions.{Does, Replies, Session, told_at, issue_told, closing_told, alteration_told, issues, issues_none, closes, closes_not, alters, alters_not, leaves, refuses, does, ends, stops, goes_on}
 use Rattle.desk.specs.declared.reply.Reply.{Reply}
 use Rattle.desk.specs.declared.reply.Reply.TheVariants as says
 use Rattle.desk.proofs.Said.{said_unbroken, one_command}
@@ -32,28 +35,31 @@ module _ (c : Transitions) (some : 0 < c.states) where
   -- ---- what comes of a command
 
   -- the reply that an answer of the contract comes to
-  answer_told : Spot → Ledger → Answer → Ledger → Reply
-  answer_told spot l (Closed number interest risk) m = says.Closed number l.stands.year interest risk (reserve_at c m.stands)
-  answer_told spot l (Altered number premium result) m = says.Altered number (pos premium) (reserve_at c m.stands) result
-  answer_told spot l (IsWorth reserve) m = says.Left reserve reserve
-  answer_told spot l (LiesWithin span) m = says.Left (pos 0) (pos 0)
-  answer_told spot l (Written column) m = says.Left (pos 0) (pos 0)
-  answer_told spot l (Refused fault) m = told_at spot fault
-  answer_told spot l (NotWritten fault column) m = told_at spot fault
+  answer_told : Spot → Answer → Reply
+  answer_told spot (Closed year) = closing_told year
+  answer_told spot (Altered alteration) = alteration_told alteration
+  answer_told spot (IsWorth reserve) = says.Left reserve reserve
+  answer_told spot (LiesWithin span) = says.Left (pos 0) (pos 0)
+  answer_told spot (Written column) = says.Left (pos 0) (pos 0)
+  answer_told spot (Refused fault) = told_at spot fault
+  answer_told spot (NotWritten fault column) = told_at spot fault
 
-  by_entry : (spot : Spot) (l : Ledger) (q : Request) (a b : Answer) (m n : Ledger) → Entry c l q a m → Entry c l q b n → (answer_told spot l a m ≡ answer_told spot l b n) × (Some m ≡ Some n)
-  by_entry spot l q a b m n e h = let same = entry_once c some l q a b m n e h in (ap₂ (answer_told spot l) same.0 same.1, ap Some same.1)
+  by_entry : (spot : Spot) (l : Ledger) (q : Request) (a b : Answer) (m n : Ledger) → Entry c l q a m → Entry c l q b n → (answer_told spot a ≡ answer_told spot b) × (Some m ≡ Some n)
+  by_entry spot l q a b m n e h = let same = entry_once c some l q a b m n e h in (ap (answer_told spot) same.0, ap Some same.1)
+
+  left_once : (l : Ledger) (k h : Leaving) (b d : Books) → Ends c l true (Left k b) → Ends c l true (Left h d) → k ≡ h
+  left_once l k h b d e f = ap leaving_at (ends_once c l true (Left k b) (Left h d) e f)
 
   does_once : (spot : Spot) (kept : Option Ledger) (command : Command) (r q : Reply) (t u : Option Ledger) → Does c spot kept command r t → Does c spot kept command q u → (r ≡ q) × (t ≡ u)
   unfolding answer_told
   does_once spot _ _ _ _ _ _ (issues {s = sum} {k = term} {g = paying_years} {d = deposit} {p = premium} a x) (issues {p = other} b y) =
       let same : premium ≡ other = priced_once c (endows sum term paying_years) 0 (pos deposit) premium other x y in (
-        ap (λ p. says.Issued (pos p) (reserve_at c (begun (terms_at (endows sum term paying_years) 0 (pos deposit) p))) (opening_result c (terms_at (endows sum term paying_years) 0 (pos deposit) p))) same,
+        ap (λ p. issue_told c (terms_at (endows sum term paying_years) 0 (pos deposit) p)) same,
         ap (λ p. Some (issued c (terms_at (endows sum term paying_years) 0 (pos deposit) p))) same,
       )
   does_once spot _ _ _ _ _ _ (issues {s = sum} {k = term} {g = paying_years} {d = deposit} {p = premium} a x) (issues_none {fault = fault} n) = absurd (issued_or_not c (endows sum term paying_years) 0 (pos deposit) premium fault a x n)
-  does_once spot _ _ _ _ _ _ (issues_none {sum} {term} {paying_years} {deposit} {fault} n) (issues {p = premium} a x) = absurd (issued_or_not c (endows sum term paying_years) 0 (pos deposit) premium fault a x n)
-  does_once spot _ _ _ _ _ _ (issues_none {sum} {term} {paying_years} {deposit} {fault} n) (issues_none {fault = other} m) = (ap (told_at spot) (not_issued_once c (endows sum term paying_years) 0 (pos deposit) fault other n m), refl)
+  does_once spot _ _ _ _ _ _ (issues_none {s = sum} {k = term} {g = paying_years} {d = deposit} {fault = fault} n) (issues {p = premium} a x) = absurd (issued_or_not c (endows sum term paying_years) 0 (pos deposit) premium fault a x n)
+  does_once spot _ _ _ _ _ _ (issues_none {s = sum} {k = term} {g = paying_years} {d = deposit} {fault = fault} n) (issues_none {fault = other} m) = (ap (told_at spot) (not_issued_once c (endows sum term paying_years) 0 (pos deposit) fault other n m), refl)
   does_once spot _ _ _ _ _ _ (closes e) (closes h) = by_entry spot _ _ _ _ _ _ e h
   does_once spot _ _ _ _ _ _ (closes e) (closes_not h) = by_entry spot _ _ _ _ _ _ e h
   does_once spot _ _ _ _ _ _ (closes_not e) (closes h) = by_entry spot _ _ _ _ _ _ e h
@@ -62,7 +68,7 @@ module _ (c : Transitions) (some : 0 < c.states) where
   does_once spot _ _ _ _ _ _ (alters e) (alters_not h) = by_entry spot _ _ _ _ _ _ e h
   does_once spot _ _ _ _ _ _ (alters_not e) (alters h) = by_entry spot _ _ _ _ _ _ e h
   does_once spot _ _ _ _ _ _ (alters_not e) (alters_not h) = by_entry spot _ _ _ _ _ _ e h
-  does_once spot _ _ _ _ _ _ leaves leaves = (refl, refl)
+  does_once spot _ _ _ _ _ _ (leaves {l} {k} {books} e) (leaves {k = h} {books = d} f) = (ap (λ x. says.Left x.paid x.result) (left_once l k h books d e f), refl)
 
   -- ---- the reply to a line
 

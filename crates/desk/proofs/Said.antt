@@ -1,5 +1,5 @@
 -- A line of a command breaks no rule, and is the text of no other command. Assumes nothing.
-use Rattle.std.proofs.Common.{◌≡◌, ℕ, suc, ◌^◌, ◌<◌, ◌==◌, Bool, true, false, not, cond, List, [], ◌∷◌, map, Some, None, Result, Ok, Err, ℤ, pos, negsuc, nat_abs, decimal, refl, sym, ap, ap₂, ◌∙◌, arith}
+use Rattle.std.proofs.Common.{◌≡◌, ℕ, suc, ◌^◌, ◌<◌, ◌==◌, Bool, true, false, not, cond, List, [], ◌∷◌, map, Some, None, Result, Ok, Err, ℤ, pos, negsuc, nat_abs, decimal, IsOkAnd, IfErr, refl, sym, ap, ap₂, subst, ◌∙◌, arith}
 use lib.Signed.{mag}
 use Rattle.std.specs.Fmt.{signed_decimal}
 use Rattle.std.specs.List.{join_with_byte}
@@ -20,9 +20,11 @@ use Rattle.sheet.specs.declared.part.Part.{Part}
 use Rattle.sheet.specs.declared.spot.Spot.{Spot}
 use Rattle.sheet.proofs.LineParts.{Free, decimal_free}
 use Rattle.desk.specs.CommandChecks.{line_checks, command_checks, kind, kind_checks, finds}
-use Rattle.desk.specs.Commands.{Command, Allowed, AllowedPlan, IsCommandLine, command_text, letter, fields, needs_contract, issue, close, alter, leave}
+use Rattle.desk.specs.Commands.{Command, Allowed, AllowedPlan, IsCommandText, IsCommandLine, command_text, letter, fields, needs_contract, issue, close, alter, leave}
+use Rattle.desk.specs.Meanings.{Means, TellsLine}
 use Rattle.desk.specs.Parsing.{Makes, Says}
 use Rattle.desk.specs.declared.command.Command as code
+use Rattle.desk.proofs.Told.{command_told}
 use Rattle.desk.proofs.Made.{kept, broken, none_then, some_stays, issue_unbroken, alter_unbroken, close_unbroken}
 
 -- ---- the text of a command, cut up
@@ -125,10 +127,12 @@ then_standing years stands spot line none found = none_then (line_checks years s
 pub then_not_standing : (years : ℕ) (stands : Bool) (spot : Spot) (line : List ℕ) → first_broken (line_checks years spot (parts line)) ≡ None → finds stands (parts line) ≡ false → first_broken (command_checks years stands spot line) ≡ Some (text_fault 13 Whole spot.line spot.offset)
 then_not_standing years stands spot line none found = none_then (line_checks years spot (parts line)) _ _ none (broken _ _ _ found)
 
+pub line_unbroken : (years : ℕ) (spot : Spot) (line : List ℕ) (c : Command) → IsCommandText years line c → first_broken (line_checks years spot (parts line)) ≡ None
+line_unbroken years spot line c said = ap (λ ps. first_broken (line_checks years spot ps)) (said_parts years line c said.allowed said.text) ∙ kind_unbroken years spot c said.allowed
+
 pub said_unbroken : (years : ℕ) (stands : Bool) (spot : Spot) (line : List ℕ) (c : Command) → IsCommandLine years stands line c → first_broken (command_checks years stands spot line) ≡ None
 said_unbroken years stands spot line c said =
-    then_standing years stands spot line (ap (λ ps. first_broken (line_checks years spot ps)) (said_parts years line c said.allowed said.text) ∙ kind_unbroken years spot c said.allowed)
-    (finds_contract years stands line c said.allowed said.text said.standing)
+    then_standing years stands spot line (line_unbroken years spot line c (record { text = said.text; allowed = said.allowed })) (finds_contract years stands line c said.allowed said.text said.standing)
 
 -- ---- no two commands have one text
 
@@ -191,3 +195,18 @@ made_says years whole line spot (Ok command) at is made =
     )
 made_says years whole line spot (Err fault) at is made =
     ap (λ ps. first_broken (line_checks years whole.spot ps)) is.text ∙ ap (λ s. first_broken (kind_checks s (map bytes_of (split.fields line)) (kind years (split.letter line)))) (sym at) ∙ made
+
+-- ---- what a line that was read, or not, says of every command
+
+pub every_command : (years : ℕ) (whole : Part) (result : Result code.Command Fault) → Says years whole result → (c : Command) → IsCommandText years (bytes_of whole) c → IsOkAnd result (λ command. Means command c)
+every_command years whole (Ok command) said c is =
+    let s = said.1.1 in
+    subst (Means command) (one_command years (bytes_of whole) said.1.0 c s.allowed is.allowed s.text is.text) s.meaning
+every_command years whole (Err fault) said c is =
+    let none : first_broken (line_checks years whole.spot (parts (bytes_of whole))) ≡ None = line_unbroken years whole.spot (bytes_of whole) c is in
+    let clash : Some fault ≡ None = sym said ∙ none in
+    absurd (grind (arith, clash))
+
+pub told_in_line : (years : ℕ) (whole : Part) (result : Result code.Command Fault) → Says years whole result → IfErr result (TellsLine whole.spot)
+told_in_line years whole (Ok command) said = tt
+told_in_line years whole (Err fault) said = command_told years whole.spot (bytes_of whole) fault said

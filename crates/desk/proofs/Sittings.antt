@@ -3,23 +3,26 @@ use Rattle.std.proofs.Common.{◌≡◌, ◌≢◌, ℕ, Result, Ok, Err, OnOk, 
 use Rattle.std.proofs.lemmas.List.{append_assoc, append-nil}
 use Rattle.basis.specs.TransitionTables.{transition_table}
 use Rattle.basis.specs.declared.table.TransitionTable.{TransitionTable}
+use Rattle.basis.specs.declared.Basis.{Ghosts as BasisGhosts}
+use Rattle.plan.specs.declared.Plan.{Ghosts as PlanGhosts}
+use Rattle.plan.specs.declared.endowment.Endowment.{Endowment}
 use Rattle.contract.specs.Standings.{Ledger}
+use Rattle.contract.specs.declared.contract.Contract.{Contract}
 use Rattle.sheet.specs.Checks.{ends_in_time}
 use Rattle.sheet.specs.Fields.{bytes_of}
 use Rattle.sheet.specs.FirstLines.{IsFirstLine}
 use Rattle.sheet.specs.Lines.{first_line, after_line, spot_after}
 use Rattle.sheet.specs.declared.part.Part.{Part}
 use Rattle.sheet.specs.declared.spot.Spot.{Spot}
-use Rattle.desk.specs.Held.{Keeps}
 use Rattle.desk.specs.Replies.{reply_text}
+use Rattle.desk.specs.Serving.{Keeps}
 use Rattle.desk.specs.Sessions.{Replies, Session, ends, stops, goes_on}
-use Rattle.desk.specs.declared.held.Held.{Held}
 use Rattle.desk.specs.declared.reply.Reply.{Reply}
 use Rattle.desk.specs.declared.reply.Reply.TheVariants as says
 
-module _ (basis : TransitionTable) (start : Spot) (bytes before : List ℕ) where
+module _ {b : BasisGhosts TransitionTable} {p : PlanGhosts Endowment} (basis : TransitionTable) (start : Spot) (bytes before : List ℕ) where
   -- the answers so far stand behind what was there, and those to what is left complete them
-  pub record Ahead (held : Option Held) (text : Part) (out : List ℕ) : Type 0 where
+  pub record Ahead (held : Option (Contract TransitionTable Endowment b p)) (text : Part) (out : List ℕ) : Type 0 where
     pub kept : Option Ledger
     pub keeps : Keeps basis held kept
     pub answered : List ℕ
@@ -35,8 +38,8 @@ module _ (basis : TransitionTable) (start : Spot) (bytes before : List ℕ) wher
     completed = λ more s. subst (λ b. Session (transition_table basis) None start b more) all (subst (λ a. Session (transition_table basis) None a (bytes_of text) more) at s);
   }
 
-  module _ (held : Option Held) (text : Part) (out : List ℕ) (so_far : Ahead held text out) where
-    pub further : (next : Option Held) (line after : Part) (reply : Reply) (written : List ℕ) → IsFirstLine text line after →
+  module _ (held : Option (Contract TransitionTable Endowment b p)) (text : Part) (out : List ℕ) (so_far : Ahead held text out) where
+    pub further : (next : Option (Contract TransitionTable Endowment b p)) (line after : Part) (reply : Reply) (written : List ℕ) → IsFirstLine text line after →
         (then : Option Ledger) × Replies (transition_table basis) so_far.kept line.spot (bytes_of line) reply then × Keeps basis next then →
         written ≡ out ++ reply_text reply → Ahead next after written
     further next line after reply written first replied writes = record {

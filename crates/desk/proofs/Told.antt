@@ -8,14 +8,11 @@ use Rattle.sheet.specs.Checks.{first_broken}
 use Rattle.sheet.specs.Lines.{further, parts, letter_of}
 use Rattle.sheet.specs.declared.spot.Spot.{Spot}
 use Rattle.sheet.proofs.FaultPlaces.{EachFault, both, range_faults, first_fault}
-use Rattle.desk.specs.CommandChecks.{Kind, form_checks, kind_checks, line_checks, command_checks, kind}
+use Rattle.desk.specs.CommandChecks.{Kind, form_checks, kind_checks, line_checks, kind}
 use Rattle.desk.specs.Meanings.{TellsLine}
 
 of_form : (spot : Spot) → TellsLine spot (text_fault 3 Whole spot.line spot.offset)
-of_form spot = record { offset = spot.offset; is = refl; rule = inl (inl refl, refl) }
-
-of_standing : (spot : Spot) → TellsLine spot (text_fault 13 Whole spot.line spot.offset)
-of_standing spot = record { offset = spot.offset; is = refl; rule = inl (inr refl, refl) }
+of_form spot = record { offset = spot.offset; is = refl; rule = inl (refl, refl) }
 
 of_number : (spot : Spot) (offset : ℕ) → TellsLine spot (text_fault 4 Field spot.line offset)
 of_number spot offset = record { offset = offset; is = refl; rule = inr (inl refl) }
@@ -41,7 +38,5 @@ unfolding EachFault
 line_faults years spot [] = (of_form spot, tt)
 line_faults years spot (head ∷ fs) = kind_faults spot fs (kind years (letter_of head))
 
-pub command_told : (years : ℕ) (stands : Bool) (spot : Spot) (line : List ℕ) (fault : Fault) → first_broken (command_checks years stands spot line) ≡ Some fault → TellsLine spot fault
-unfolding EachFault
-command_told years stands spot line fault broken =
-    first_fault (TellsLine spot) (command_checks years stands spot line) fault (both (TellsLine spot) (line_checks years spot (parts line)) _ (line_faults years spot (parts line)) (of_standing spot, tt)) broken
+pub command_told : (years : ℕ) (spot : Spot) (line : List ℕ) (fault : Fault) → first_broken (line_checks years spot (parts line)) ≡ Some fault → TellsLine spot fault
+command_told years spot line fault broken = first_fault (TellsLine spot) (line_checks years spot (parts line)) fault (line_faults years spot (parts line)) broken

@@ -13,6 +13,9 @@ use Rattle.valuation.specs.Premiums.{Suffices, LeastPremium}
 use Rattle.valuation.proofs.Premiums.{none_up_to}
 use Rattle.contract.specs.Cases.{terms_at}
 use Rattle.contract.specs.Ledgers.{Close, Closed, Entry, refused, accepted, closed}
+use Rattle.contract.specs.Runs.{leaves as ledger_leaves}
+use Rattle.contract.specs.Steps.{leaving}
+use Rattle.contract.specs.WorkedRun.{first_year as lived, second_year as died}
 use Rattle.contract.specs.Standings.{Terms, Ledger, AreTerms}
 use Rattle.contract.proofs.Objections.{may_close, first_no_year}
 use Rattle.sheet.specs.Sheets.{IsSheet, LawfulBasis, basis_of}
@@ -100,10 +103,10 @@ after_two_years = record {
 is_issued : (spot : Spot) → Does basis spot None (issue 1000000 2 2 0) (says.Issued (pos 452487) (negsuc 0) (pos 1)) (Some at_issue)
 is_issued spot = issues lawful_terms priced
 
-first_year : Entry basis at_issue (Close 0 (pos 120000)) (Closed 1 (pos 4022) (pos 55249)) after_a_year
+first_year : Entry basis at_issue (Close 0 (pos 120000)) (Closed lived) after_a_year
 first_year = accepted (may_close basis at_issue.stands 0 (pos 120000) (record { year_left = lit≤ tt; in_basis = lit≤ tt; rate_low = omega (arith, ints); rate_high = omega (arith, ints); may_move = lit≤ tt; number_left = lit≤ tt })) closed
 
-second_year : Entry basis after_a_year (Close 1 (negsuc 9999)) (Closed 2 (negsuc 108999) (pos 0)) after_two_years
+second_year : Entry basis after_a_year (Close 1 (negsuc 9999)) (Closed died) after_two_years
 second_year = accepted (may_close basis after_a_year.stands 1 (negsuc 9999) (record { year_left = lit≤ tt; in_basis = lit≤ tt; rate_low = omega (arith, ints); rate_high = omega (arith, ints); may_move = lit≤ tt; number_left = lit≤ tt })) closed
 
 first_closed : (spot : Spot) → Does basis spot (Some at_issue) (close 0 (pos 120000)) (says.Closed 1 0 (pos 4022) (pos 55249) (pos 447513)) (Some after_a_year)
@@ -116,7 +119,7 @@ not_closed : (spot : Spot) → Does basis spot (Some after_two_years) (close 1 (
 not_closed spot = closes_not (refused (first_no_year basis after_two_years.stands 1 (pos 0) (lit≤ tt)))
 
 is_left : (spot : Spot) → Does basis spot (Some after_two_years) leave (says.Left (pos 0) (pos 0)) None
-is_left spot = leaves
+is_left spot = leaves {k = leaving basis after_two_years.stands} ledger_leaves
 
 -- ---- the lines of the commands, whatever follows them
 

@@ -51,6 +51,11 @@ needs_contract (close state rate) = true
 needs_contract (alter sum term paying_years) = true
 needs_contract leave = true
 
+-- the line is the text of an allowed command
+pub record IsCommandText (years : ℕ) (line : List ℕ) (c : Command) : Type 0 where
+  pub text : line ≡ command_text c
+  pub allowed : Allowed years c
+
 -- the line is an allowed command, and finds a contract or none as it needs
 pub record IsCommandLine (years : ℕ) (stands : Bool) (line : List ℕ) (c : Command) : Type 0 where
   pub text : line ≡ command_text c

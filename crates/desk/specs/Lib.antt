@@ -1,10 +1,10 @@
 pub mod CommandChecks
 pub mod Commands
-pub mod Held
 pub mod Inputs
 pub mod Meanings
 pub mod Parsing
 pub mod Replies
+pub mod Serving
 pub mod Sessions
 pub mod WorkedCommands
 pub mod WorkedInput

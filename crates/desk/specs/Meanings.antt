@@ -1,10 +1,10 @@
 -- What the code makes of a line. Assumes nothing.
-use Rattle.std.specs.Prelude.{◌≡◌, ◌⊎◌, ℕ, Bool, List, ℤ, pos}
+use Rattle.std.specs.Prelude.{◌≡◌, ◌⊎◌, ℕ, ℤ, pos}
 use Rattle.units.specs.Faults.{text_fault}
 use Rattle.units.specs.declared.fault.Fault.{Fault}
 use Rattle.plan.specs.declared.endowment.Endowment.{Endowment}
 use Rattle.sheet.specs.declared.spot.Spot.{Spot}
-use Rattle.desk.specs.Commands.{Command, IsCommandLine, issue, close, alter, leave}
+use Rattle.desk.specs.Commands.{Command, issue, close, alter, leave}
 use Rattle.desk.specs.declared.command.Command as code
 use Rattle.desk.specs.declared.command.Command.TheVariants as code_of
 
@@ -15,13 +15,10 @@ pub data Means : code.Command → Command → Type 0 where
   alters : (plan : Endowment) → Means (code_of.Alter plan) (alter plan.sum.ticks plan.term plan.paying_years)
   leaves : Means code_of.Leave leave
 
--- a line is this command, which finds a contract or none as it needs
-pub record IsCommand (years : ℕ) (stands : Bool) (line : List ℕ) (command : code.Command) (c : Command) : Type 0 where
-  pub meaning : Means command c
-  pub said : IsCommandLine years stands line c
-
 -- a fault of a line is told in that line, and at its first byte if it is not of a field
 pub record TellsLine (spot : Spot) (fault : Fault) : Type 0 where
   pub offset : ℕ
   pub is : fault ≡ text_fault fault.number fault.layer spot.line offset
-  pub rule : (((fault.number ≡ 3) ⊎ (fault.number ≡ 13)) × (offset ≡ spot.offset)) ⊎ ((fault.number ≡ 4) ⊎ (fault.number ≡ 5))
+  pub rule :
+      ((fault.number ≡ 3) × (offset ≡ spot.offset))
+      ⊎ ((fault.number ≡ 4) ⊎ (fault.number ≡ 5))

@@ -7,8 +7,9 @@ use Rattle.basis.specs.Transitions.{Transitions}
 use Rattle.plan.specs.Endowments.{endows}
 use Rattle.contract.specs.Cases.{terms_at}
 use Rattle.contract.specs.Ledgers.{Close, Alter, Closed, Altered, Refused, Entry}
-use Rattle.contract.specs.Standings.{Ledger, Terms, AreTerms, IsPriced, NotIssued, begun, issued, opening_result, reserve_at}
-use Rattle.contract.specs.Steps.{payout, leaving_result}
+use Rattle.contract.specs.Runs.{Ends, Left}
+use Rattle.contract.specs.Standings.{Ledger, Books, Terms, AreTerms, IsPriced, NotIssued, begun, issued, opening_result, reserve_at}
+use Rattle.contract.specs.Steps.{ClosedYear, Alteration, Leaving}
 use Rattle.sheet.specs.Checks.{first_broken, ends_in_time}
 use Rattle.sheet.specs.Lines.{first_line, after_line, spot_after}
 use Rattle.sheet.specs.declared.spot.Spot.{Spot}
@@ -30,19 +31,46 @@ told_at spot fault = place_told fault.number spot fault.place
 abbrev pub terms_issued : ℕ → ℕ → ℕ → ℕ → ℕ → Terms
 terms_issued sum term paying_years deposit premium = terms_at (endows sum term paying_years) 0 (pos deposit) premium
 
+-- what is told of a year that was closed, and of an alteration
+abbrev pub closing_told : ClosedYear → Reply
+closing_told k = says.Closed k.number k.year k.interest_result k.risk_result k.reserve
+
+abbrev pub alteration_told : Alteration → Reply
+alteration_told k = says.Altered k.number (pos k.premium) k.reserve k.result
+
 module _ (c : Transitions) where
+  -- what is told of a contract that was issued
+  abbrev pub issue_told : Terms → Reply
+  issue_told x = says.Issued (pos x.premium) (reserve_at c (begun x)) (opening_result c x)
+
   -- what comes of a command in the line at a spot, where the ledger of a contract is kept or none is
   pub data Does (spot : Spot) : Option Ledger → Command → Reply → Option Ledger → Type 0 where
-    issues : {s k g d p : ℕ} → AreTerms c (terms_issued s k g d p) → IsPriced c (terms_issued s k g d p) →
-        Does spot None (issue s k g d) (says.Issued (pos p) (reserve_at c (begun (terms_issued s k g d p))) (opening_result c (terms_issued s k g d p))) (Some (issued c (terms_issued s k g d p)))
-    issues_none : {sum term paying_years deposit : ℕ} {fault : Fault} → NotIssued c (endows sum term paying_years) 0 (pos deposit) fault → Does spot None (issue sum term paying_years deposit) (told_at spot fault) None
-    closes : {l m : Ledger} {state number : ℕ} {rate interest risk : ℤ} → Entry c l (Close state rate) (Closed number interest risk) m →
-        Does spot (Some l) (close state rate) (says.Closed number l.stands.year interest risk (reserve_at c m.stands)) (Some m)
-    closes_not : {l m : Ledger} {state : ℕ} {rate : ℤ} {fault : Fault} → Entry c l (Close state rate) (Refused fault) m → Does spot (Some l) (close state rate) (told_at spot fault) (Some m)
-    alters : {l m : Ledger} {sum term paying_years number premium : ℕ} {result : ℤ} → Entry c l (Alter (endows sum term paying_years)) (Altered number premium result) m →
-        Does spot (Some l) (alter sum term paying_years) (says.Altered number (pos premium) (reserve_at c m.stands) result) (Some m)
-    alters_not : {l m : Ledger} {sum term paying_years : ℕ} {fault : Fault} → Entry c l (Alter (endows sum term paying_years)) (Refused fault) m → Does spot (Some l) (alter sum term paying_years) (told_at spot fault) (Some m)
-    leaves : {l : Ledger} → Does spot (Some l) leave (says.Left (payout c l.stands) (leaving_result c l.stands)) None
+    issues :
+        {s k g d p : ℕ} → AreTerms c (terms_issued s k g d p) → IsPriced c (terms_issued s k g d p) →
+        Does spot None (issue s k g d) (issue_told (terms_issued s k g d p))
+            (Some (issued c (terms_issued s k g d p)))
+    issues_none :
+        {s k g d : ℕ} {fault : Fault} → NotIssued c (endows s k g) 0 (pos d) fault →
+        Does spot None (issue s k g d) (told_at spot fault) None
+    closes :
+        {l m : Ledger} {state : ℕ} {rate : ℤ} {year : ClosedYear} →
+        Entry c l (Close state rate) (Closed year) m →
+        Does spot (Some l) (close state rate) (closing_told year) (Some m)
+    closes_not :
+        {l m : Ledger} {state : ℕ} {rate : ℤ} {fault : Fault} →
+        Entry c l (Close state rate) (Refused fault) m →
+        Does spot (Some l) (close state rate) (told_at spot fault) (Some m)
+    alters :
+        {l m : Ledger} {s k g : ℕ} {alteration : Alteration} →
+        Entry c l (Alter (endows s k g)) (Altered alteration) m →
+        Does spot (Some l) (alter s k g) (alteration_told alteration) (Some m)
+    alters_not :
+        {l m : Ledger} {s k g : ℕ} {fault : Fault} →
+        Entry c l (Alter (endows s k g)) (Refused fault) m →
+        Does spot (Some l) (alter s k g) (told_at spot fault) (Some m)
+    leaves :
+        {l : Ledger} {k : Leaving} {books : Books} → Ends c l true (Left k books) →
+        Does spot (Some l) leave (says.Left k.paid k.result) None
 
   -- the reply to a line that begins at a spot: it is an allowed command, or breaks a rule
   pub data Replies (kept : Option Ledger) (spot : Spot) (line : List ℕ) : Reply → Option Ledger → Type 0 where

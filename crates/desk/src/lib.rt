@@ -3,5 +3,5 @@
 
 pub mod answer;
 pub mod command;
-mod held;
 pub mod reply;
+mod serve;

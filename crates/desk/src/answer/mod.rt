@@ -4,18 +4,17 @@ ghost use Rattle.std.specs.String.{string_bytes};
 ghost use Rattle.basis.specs.TransitionTables.{transition_table};
 ghost use Rattle.contract.specs.Standings.{Ledger};
 ghost use Rattle.sheet.specs.Fields.{bytes_of};
-ghost use Rattle.desk.specs.Held.{Keeps};
 ghost use Rattle.desk.specs.Inputs.{IsAnswer};
-ghost use Rattle.desk.specs.Sessions.{Replies, Session, told_at};
+ghost use Rattle.desk.specs.Serving.{Keeps};
+ghost use Rattle.desk.specs.Sessions.{Replies, Session};
 ghost use Rattle.desk.specs.WorkedInput.{worked_input, worked_answer};
 
 #[cfg(test)]
 mod tests;
 
 use crate::command::command_of;
-use crate::held::Held;
-use crate::held::serve::serve;
 use crate::reply::{Reply, write_reply};
+use crate::serve::{Held, refusal, serve};
 use basis::Basis;
 use basis::table::TransitionTable;
 use sheet::part::Part;
@@ -23,29 +22,9 @@ use sheet::spot::Spot;
 use sheet::table::read_table;
 use std::alloc::{AllocError, Global};
 use units::failure::Failure;
-use units::fault::{Fault, Place};
 
 // The most bytes of an input.
 const MOST_BYTES: usize = 60_000;
-
-// A refusal in a line: a fault in the text is told where it stands, and one of the contract at the line.
-fn refusal(spot: Spot, fault: Fault) -> Reply
-    ensures { result ≡ told_at spot fault }
-{
-    let number = fault.number;
-    match fault.place {
-        Place::Text { line, offset } => Reply::Refused {
-            number,
-            line,
-            offset,
-        },
-        Place::Entry { .. } => Reply::Refused {
-            number,
-            line: spot.line,
-            offset: spot.offset,
-        },
-    }
-}
 
 // The reply to a line, and the contract that is held after it.
 fn reply_to<'a>(
@@ -56,12 +35,8 @@ fn reply_to<'a>(
     ensures { (kept : Option Ledger) → Keeps basis.now held.entry kept → (then : Option Ledger) × Replies (transition_table basis.now) kept line.entry.spot (bytes_of line.entry) result.1 then × Keeps basis.now result.0 then }
 {
     let spot = line.spot();
-    let stands = held.is_some();
-    match command_of(line, basis.years(), stands) {
-        Ok(command) => match serve(basis, held, command) {
-            (next, Ok(reply)) => (next, reply),
-            (next, Err(fault)) => (next, refusal(spot, fault)),
-        },
+    match command_of(line, basis.years()) {
+        Ok(command) => serve(basis, held, spot, command),
         Err(fault) => (held, refusal(spot, fault)),
     }
 }

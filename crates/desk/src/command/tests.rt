@@ -15,12 +15,12 @@ fn fault(number: u8, layer: Layer, line: usize, offset: usize) -> Fault {
     }
 }
 
-// Lines and the offsets of their faults, on a basis of three years, where a contract stands or does not.
-fn check(rt: &impl Abort, stands: bool, number: u8, layer: Layer, cases: &[(&str, usize)]) {
+// Lines and the offsets of their faults, on a basis of three years.
+fn check(rt: &impl Abort, number: u8, layer: Layer, cases: &[(&str, usize)]) {
     for (text, offset) in cases {
         let line = Part::new(text.as_bytes());
         let expected = fault(number, layer, 1, *offset);
-        assert_eq!(rt; command_of(line, 3, stands), Err(expected), "{text}");
+        assert_eq!(rt; command_of(line, 3), Err(expected), "{text}");
     }
 }
 
@@ -33,11 +33,11 @@ fn reads_each_command(rt: HostRuntime) -> Result<(), Fail> {
         ("Q;0;1;0;0", least, 0),
     ];
     for (text, plan, deposit) in issues {
-        let command = command_of(Part::new(text.as_bytes()), 3, false)?;
+        let command = command_of(Part::new(text.as_bytes()), 3)?;
         assert_eq!(rt; command, Command::Issue { plan, deposit }, "{text}");
     }
     for (text, plan) in [("A;10000000000;3;3", most), ("A;0;1;0", least)] {
-        let command = command_of(Part::new(text.as_bytes()), 3, true)?;
+        let command = command_of(Part::new(text.as_bytes()), 3)?;
         assert_eq!(rt; command, Command::Alter { plan }, "{text}");
     }
     let closings = [
@@ -48,10 +48,10 @@ fn reads_each_command(rt: HostRuntime) -> Result<(), Fail> {
         ("C;1;-99999999999", 1, -99_999_999_999),
     ];
     for (text, state, rate) in closings {
-        let command = command_of(Part::new(text.as_bytes()), 3, true)?;
+        let command = command_of(Part::new(text.as_bytes()), 3)?;
         assert_eq!(rt; command, Command::Close { state, rate }, "{text}");
     }
-    let command = command_of(Part::new(b"L"), 3, true)?;
+    let command = command_of(Part::new(b"L"), 3)?;
     assert_eq!(rt; command, Command::Leave);
     Ok(())
 }
@@ -75,8 +75,7 @@ fn a_command_has_its_letter_and_its_fields(rt: HostRuntime) {
         ("T;0;0;0;1", 0),
         ("E", 0),
     ];
-    check(&rt, false, 3, Layer::Sheet, &cases);
-    check(&rt, true, 3, Layer::Sheet, &cases);
+    check(&rt, 3, Layer::Sheet, &cases);
 }
 
 #[test]
@@ -97,8 +96,7 @@ fn fields_are_numbers_before_ranges(rt: HostRuntime) {
         ("A;1;-0;0", 4),
         ("A;1;1; 0", 6),
     ];
-    check(&rt, false, 4, Layer::Field, &cases);
-    check(&rt, true, 4, Layer::Field, &cases);
+    check(&rt, 4, Layer::Field, &cases);
 }
 
 #[test]
@@ -116,15 +114,7 @@ fn numbers_lie_in_their_ranges(rt: HostRuntime) {
         ("A;1;0;0", 4),
         ("A;1;2;3", 6),
     ];
-    check(&rt, false, 5, Layer::Field, &cases);
-    check(&rt, true, 5, Layer::Field, &cases);
-}
-
-#[test]
-fn a_command_finds_a_contract_or_none(rt: HostRuntime) {
-    check(&rt, true, 13, Layer::Sheet, &[("Q;1;1;0;0", 0)]);
-    let cases = [("C;0;0", 0), ("A;1;1;0", 0), ("L", 0)];
-    check(&rt, false, 13, Layer::Sheet, &cases);
+    check(&rt, 5, Layer::Field, &cases);
 }
 
 // No term goes beyond the years of the basis, nor beyond 120.
@@ -139,7 +129,7 @@ fn a_term_goes_up_to_the_last_year(rt: HostRuntime) {
         ("A;1;1;0", 0, false),
     ];
     for (text, years, taken) in cases {
-        let answer = command_of(Part::new(text.as_bytes()), years, true);
+        let answer = command_of(Part::new(text.as_bytes()), years);
         assert_eq!(rt; answer.is_ok(), taken, "{text} {years}");
     }
 }
@@ -149,7 +139,7 @@ fn faults_stand_in_their_line(rt: HostRuntime) -> Result<(), Fault> {
     let (_, rest) = Part::new(b"L\nC;8;0\n").first_line()?;
     let (line, _) = rest.first_line()?;
     assert_eq!(rt;
-        command_of(line, 3, true),
+        command_of(line, 3),
         Err(fault(5, Layer::Field, 2, 4))
     );
     Ok(())

@@ -7,7 +7,7 @@ use Rattle.contract.specs.Standings.{Ledger}
 use Rattle.sheet.specs.Checks.{ends_in_time}
 use Rattle.sheet.specs.Fields.{bytes_of}
 use Rattle.sheet.specs.FirstLines.{IsFirstLine}
-use Rattle.desk.specs.Held.{Keeps}
+use Rattle.desk.specs.Serving.{Keeps}
 use Rattle.desk.specs.Replies.{reply_text}
 use Rattle.desk.specs.Sessions.{Replies}
 use Rattle.desk.specs.declared.reply.Reply.TheVariants as says
