@@ -1,5 +1,6 @@
 // Figures of a case worked by hand: two years, a tenth and a fifth die, a factor of nine tenths,
 // an endowment of 1,000,000 ticks over both years with the premium due in both.
+use crate::closing::{Move, closing_values};
 use crate::course::course;
 use crate::figure::figure;
 use crate::mean::Mean;
@@ -157,6 +158,32 @@ fn no_premium_will_do(rt: HostRuntime) -> Result<(), Fail> {
         let fault = Fault::at_entry(20, Layer::Contract, year, state);
         let refusal = least_premium(&table, &plan, state, year, bound);
         assert_eq!(rt; refusal, Err(fault));
+    }
+    Ok(())
+}
+
+#[test]
+fn closing_values_of_the_worked_case(rt: HostRuntime) -> Result<(), Fail> {
+    let table = table_of(&rt)?;
+    let plan = Endowment::new(1_000_000, 2, 2)?;
+    let premium = Premium::try_from(452_487)?;
+    // from, to, year; the discounted join and the join, and the reserve after the move
+    let cases = [
+        (0, 0, 0, Some(((452_486, 502_762), 447_513))),
+        (0, 1, 0, Some(((452_486, 502_762), 0))),
+        (0, 0, 1, Some(((900_000, 1_000_000), 1_000_000))),
+        (0, 1, 1, Some(((900_000, 1_000_000), 0))),
+        (1, 1, 1, Some(((0, 0), 0))),
+        (1, 0, 0, None),
+        (0, 2, 0, None),
+        (0, 0, 2, None),
+    ];
+    for (from, to, year, expected) in cases {
+        let values = match Move::new(&table, from, to, year) {
+            Some(step) => Some(closing_values(&step, &plan, premium)),
+            None => None,
+        };
+        assert_eq!(rt; values, expected);
     }
     Ok(())
 }
