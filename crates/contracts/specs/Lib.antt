@@ -1,1 +1,2 @@
 pub mod Disability
+pub mod Sums

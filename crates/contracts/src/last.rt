@@ -11,7 +11,7 @@ pub(crate) fn print_last_number(rt: &HostRuntime, basis: &TransitionTable) -> an
     let plan = pension(PENSION, YEARS)?;
     let mut proposal = Proposal::new(basis, plan);
     let _premium = proposal.price()?;
-    let (mut contract, _result) = proposal.issue();
+    let mut contract = proposal.issue().contract;
     for _time in 0..9_998 {
         let _altered = contract.alter(plan)?;
     }

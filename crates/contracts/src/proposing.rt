@@ -26,11 +26,13 @@ fn print_issue(
     rt: &HostRuntime,
     proposal: Proposal<'_, TransitionTable, Annuity>,
 ) -> anyhow::Result<()> {
-    let (contract, ticks) = proposal.issue();
+    let issued = proposal.issue();
     let reserve = Francs {
-        ticks: contract.reserve(),
+        ticks: issued.reserve,
     };
-    let result = Francs { ticks };
+    let result = Francs {
+        ticks: issued.opening_result,
+    };
     println!(rt; "issue: reserve {reserve}, result {result}")?;
     Ok(())
 }

@@ -1,16 +1,19 @@
 -- The worked input, line by line. Assumes nothing.
 use Rattle.std.proofs.Common.{◌≡◌, ℕ, zero, suc, ◌≤◌, List, [], ◌∷◌, ◌++◌, map, codes, pos, negsuc, ◌≤ℤ◌, Some, None, refl, lit≤, arith}
 use Rattle.std.specs.Fmt.{digits}
+use Rattle.std.proofs.lemmas.Bool.Decides.{nat_tests}
 use Rattle.std.proofs.lemmas.Int.{ints}
 use Rattle.units.specs.Columns.{AllBetween}
 use Rattle.units.specs.Ranges.{million}
 use Rattle.units.specs.Sums.{int_sum_by}
 use Rattle.basis.specs.TransitionColumns.{LawfulRow, LawfulRows}
-use Rattle.basis.specs.Transitions.{Transitions}
+use Rattle.basis.specs.Transitions.{Transitions, AgreeEverywhere}
 use Rattle.plan.specs.Payments.{Payments}
 use Rattle.plan.specs.Endowments.{endows}
 use Rattle.valuation.specs.Premiums.{Suffices, LeastPremium}
+use Rattle.valuation.specs.WorkedCase.{worked_basis}
 use Rattle.valuation.proofs.Premiums.{none_up_to}
+use Rattle.valuation.proofs.WorkedCase.{worked_figures_on}
 use Rattle.contract.specs.Cases.{terms_at}
 use Rattle.contract.specs.Ledgers.{Close, Closed, Entry, refused, accepted, closed}
 use Rattle.contract.specs.Runs.{leaves as ledger_leaves}
@@ -26,7 +29,7 @@ use Rattle.desk.specs.Commands.{issue, close, leave}
 use Rattle.desk.specs.Inputs.{IsAnswer, session}
 use Rattle.desk.specs.Replies.{reply_text}
 use Rattle.desk.specs.Sessions.{Does, Session, issues, closes, closes_not, leaves, does, ends, goes_on}
-use Rattle.desk.specs.WorkedInput.{worked_input, worked_answer}
+use Rattle.desk.specs.WorkedInput.{worked_input, worked_answer, WorkedInput}
 use Rattle.desk.specs.declared.reply.Reply.TheVariants as says
 
 -- ---- the sheet
@@ -152,6 +155,36 @@ lines : Session basis None (at 11 122) commands
 unfolding commands
 lines = issue_answered _ _ (first_answered _ _ (second_answered _ _ (third_answered _ _ (leave_answered [] [] ends))))
 
-pub worked : IsAnswer worked_input worked_answer
+answered : IsAnswer worked_input worked_answer
 unfolding digits at
-worked = session (lit≤ tt) sheet lines
+answered = session (lit≤ tt) sheet lines
+
+-- ---- the sheet's basis is the worked life table
+
+same_factor : (t : ℕ) → worked_basis.factor t ≡ basis.factor t
+same_factor zero = refl
+same_factor (suc zero) = refl
+same_factor (suc (suc t)) = grind (arith, nat_tests)
+
+same_share : (i j t : ℕ) → worked_basis.share i j t ≡ basis.share i j t
+same_share zero zero zero = refl
+same_share zero (suc zero) zero = refl
+same_share zero (suc (suc j)) zero = grind (arith, nat_tests)
+same_share (suc zero) zero zero = refl
+same_share (suc zero) (suc zero) zero = refl
+same_share (suc zero) (suc (suc j)) zero = grind (arith, nat_tests)
+same_share (suc (suc i)) j zero = grind (arith, nat_tests)
+same_share zero zero (suc zero) = refl
+same_share zero (suc zero) (suc zero) = refl
+same_share zero (suc (suc j)) (suc zero) = grind (arith, nat_tests)
+same_share (suc zero) zero (suc zero) = refl
+same_share (suc zero) (suc zero) (suc zero) = refl
+same_share (suc zero) (suc (suc j)) (suc zero) = grind (arith, nat_tests)
+same_share (suc (suc i)) j (suc zero) = grind (arith, nat_tests)
+same_share i j (suc (suc t)) = grind (arith, nat_tests)
+
+one_basis : AgreeEverywhere worked_basis basis
+one_basis = record { states = refl; years = refl; factor = same_factor; share = same_share }
+
+pub worked : WorkedInput
+worked = record { answer = answered; one_basis = one_basis; figures = worked_figures_on basis one_basis }

@@ -48,7 +48,7 @@ module _ (c : Transitions) where
     issues :
         {s k g d p : ℕ} → AreTerms c (terms_issued s k g d p) → IsPriced c (terms_issued s k g d p) →
         Does spot None (issue s k g d) (issue_told (terms_issued s k g d p))
-            (Some (issued c (terms_issued s k g d p)))
+        (Some (issued c (terms_issued s k g d p)))
     issues_none :
         {s k g d : ℕ} {fault : Fault} → NotIssued c (endows s k g) 0 (pos d) fault →
         Does spot None (issue s k g d) (told_at spot fault) None

@@ -53,12 +53,14 @@ fn issue_endowment(
         (issue plan.sum.ticks plan.term plan.paying_years d) result }
 {
     match issue(basis, plan, 0, deposit) {
-        Ok(Issued {
-            contract,
-            premium,
-            reserve,
-            opening_result,
-        }) => {
+        Ok(
+            Issued {
+                contract,
+                premium,
+                reserve,
+                opening_result,
+            },
+        ) => {
             let reply = Reply::Issued {
                 premium: premium.ticks() as i64,
                 reserve,
@@ -71,12 +73,7 @@ fn issue_endowment(
 }
 
 // Closes the year of the contract.
-fn close_year(
-    contract: Held<'_>,
-    spot: Spot,
-    end: usize,
-    rate: i64,
-) -> (Option<Held<'_>>, Reply)
+fn close_year(contract: Held<'_>, spot: Spot, end: usize, rate: i64) -> (Option<Held<'_>>, Reply)
     ensures { (l : Ledger) → standing contract.entry ≡ l.stands →
         CarriesOut contract.entry.basis.now spot (Some l) (close end rate) result }
 {
@@ -100,7 +97,7 @@ fn close_year(
 fn alter_plan(contract: Held<'_>, spot: Spot, plan: Endowment) -> (Option<Held<'_>>, Reply)
     ensures { (l : Ledger) → standing contract.entry ≡ l.stands →
         CarriesOut contract.entry.basis.now spot (Some l)
-            (alter plan.sum.ticks plan.term plan.paying_years) result }
+        (alter plan.sum.ticks plan.term plan.paying_years) result }
 {
     let mut contract = contract;
     match contract.alter(plan) {

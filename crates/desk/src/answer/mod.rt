@@ -7,7 +7,7 @@ ghost use Rattle.sheet.specs.Fields.{bytes_of};
 ghost use Rattle.desk.specs.Inputs.{IsAnswer};
 ghost use Rattle.desk.specs.Serving.{Keeps};
 ghost use Rattle.desk.specs.Sessions.{Replies, Session};
-ghost use Rattle.desk.specs.WorkedInput.{worked_input, worked_answer};
+ghost use Rattle.desk.specs.WorkedInput.{WorkedInput};
 
 #[cfg(test)]
 mod tests;
@@ -70,7 +70,7 @@ fn answer_commands(
 pub fn answer(heap: Global, bytes: &[u8]) -> Result<String, AllocError>
     ensures answer { IfOk result (λ text. IsAnswer bytes.now (string_bytes text)) }
     ensures no_other_answer { IfOk result (λ text. (other : List ℕ) → IsAnswer bytes.now other → string_bytes text ≡ other) }
-    ensures worked { IsAnswer worked_input worked_answer }
+    ensures worked { WorkedInput }
 {
     let mut out = String::new(heap);
     if bytes.len() > MOST_BYTES {

@@ -138,9 +138,6 @@ fn a_term_goes_up_to_the_last_year(rt: HostRuntime) {
 fn faults_stand_in_their_line(rt: HostRuntime) -> Result<(), Fault> {
     let (_, rest) = Part::new(b"L\nC;8;0\n").first_line()?;
     let (line, _) = rest.first_line()?;
-    assert_eq!(rt;
-        command_of(line, 3),
-        Err(fault(5, Layer::Field, 2, 4))
-    );
+    assert_eq!(rt; command_of(line, 3), Err(fault(5, Layer::Field, 2, 4)));
     Ok(())
 }
