@@ -68,6 +68,8 @@ impl TryFrom<i64> for Amount {
 impl fmt::Display for OutsideLimit {
     ghost output = { λ _. Some (codes "an amount is outside 0 to the limit") };
 
+    ghost styled_output = { λ _ _. Some (codes "an amount is outside 0 to the limit") };
+
     fn fmt<W: fmt::Write>(&self, f: &mut fmt::Formatter<W>) -> fmt::Result {
         f.write_str("an amount is outside 0 to the limit")
     }
