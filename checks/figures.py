@@ -1,10 +1,14 @@
 #!/usr/bin/env python3
-"""Figures for comparison, computed apart from the engine: premiums, reserves, spans and courses, all in ticks.
+"""Figures for comparison, computed apart from the engine: premiums, reserves, spans, courses and a closing, all in ticks, and sheets at their
+bounds.
 
 Prints what the program `figures` has to write. Each span is computed a second time, from every single path, and what
 differs, or is not what was worked by hand, ends the program with an error.
 """
-from rules import LIMIT, MILLION, least_premium, lives, nearest, refused, reserves, spans
+import re
+
+from rules import LIMIT, MILLION, Refusal, least_premium, lives, nearest, refused, reserves, spans
+from rules import Contract as Kept
 
 
 def endowment(total, term, paying):
@@ -133,12 +137,114 @@ def show_pension():
     print("the column still holds " + " ".join(map(str, held)))
 
 
+WORDS = {
+    3: ("sheet", "a letter may not stand here or the number of fields differs"),
+    4: ("field", "a field is not 1 to 11 digits without leading nought"),
+    5: ("field", "a number is outside its range"),
+    7: ("sheet", "a year or a pair of states is out of order"),
+    8: ("sheet", "a row misses the million"),
+}
+
+
+class SheetRefusal(Exception):
+    def __init__(self, number, line, offset):
+        layer, words = WORDS[number]
+        super().__init__(f"refused with {number} by the {layer} at line {line}, offset {offset}: {words}")
+
+
+def read_line(letter, ranges, line, number, offset):
+    """The fields of a line: the letter, then as many numbers as there are ranges."""
+    first, *fields = line.split(";")
+    if first != letter or len(fields) != len(ranges):
+        raise SheetRefusal(3, number, offset)
+    starts = [offset + len(letter) + 1 + sum(len(field) + 1 for field in fields[:k]) for k in range(len(fields))]
+    for field, start in zip(fields, starts):
+        if not re.fullmatch("0|[1-9][0-9]{0,10}", field):
+            raise SheetRefusal(4, number, start)
+    for field, start, (least, most) in zip(fields, starts, ranges):
+        if not least <= int(field) <= most:
+            raise SheetRefusal(5, number, start)
+    return [int(field) for field in fields]
+
+
+def read_sheet(text):
+    """The numbers of states and years of a sheet, or the first rule that it breaks."""
+    rest, offset = [], 0
+    for number, line in enumerate(text.splitlines(), 1):
+        rest.append((line, number, offset))
+        offset += len(line) + 1
+    states, years = read_line("B", [(2, 8), (1, 120)], *rest.pop(0))
+    year, last, sums = -1, None, [MILLION] * states
+    while True:
+        line, number, offset = rest.pop(0)
+        if line[:1] == "T" and year >= 0:
+            t, i, j, p = read_line("T", [(0, years - 1), (0, states - 1), (0, states - 1), (1, MILLION)], line, number, offset)
+            if t != year or (last is not None and (i, j) <= last):
+                raise SheetRefusal(7, number, offset)
+            last, sums[i] = (i, j), sums[i] + p
+            continue
+        if line[:1] == "D" and year < years - 1:
+            t, _ = read_line("D", [(0, years - 1), (1, MILLION)], line, number, offset)
+            if t != year + 1:
+                raise SheetRefusal(7, number, offset)
+        elif line != "E" or year < years - 1:
+            raise SheetRefusal(3, number, offset)
+        if sums != [MILLION] * states:
+            raise SheetRefusal(8, number, offset)
+        if line == "E":
+            return states, years
+        year, last, sums = t, None, [0] * states
+
+
+def staying(states, years):
+    """The sheet in which everybody stays and nothing is discounted."""
+    lines = [f"B;{states};{years}"]
+    for t in range(years):
+        lines.append(f"D;{t};{MILLION}")
+        lines.extend(f"T;{t};{i};{i};{MILLION}" for i in range(states))
+    return "\n".join(lines + ["E", ""])
+
+
+def answer(call):
+    """What a call answers, or what it is refused with."""
+    try:
+        return call()
+    except (Refusal, SheetRefusal) as refusal:
+        return str(refusal)
+
+
+def show_sheets():
+    print("The sheet of 8 states and 120 years in which everybody stays")
+    states, years = read_sheet(staying(8, 120))
+    print(f"read, with m = {states} and n = {years}")
+    print()
+    print("A sheet that begins B;9;1")
+    print(answer(lambda: read_sheet("B;9;1\n")))
+
+
+def close_first(rate):
+    contract = Kept([900_000] * 2, lives([100_000, 200_000]), endowment(1_000_000, 2, 2), 0, 0)
+    interest, risk = contract.close(0, rate)
+    contract.balance(contract.reserve())
+    return f"closed with number {contract.number}, result on interest {interest}, on risk {risk}"
+
+
+def show_closings():
+    print("The endowment over 2 years, issued at its least premium, and year 0 closed in state 0")
+    for rate in (500_000, 500_001):
+        print(f"at a rate of {rate}: {answer(lambda: close_first(rate))}")
+
+
 def main():
     show_endowment()
     print()
     show_lives()
     print()
     show_pension()
+    print()
+    show_sheets()
+    print()
+    show_closings()
 
 
 main()

@@ -1,6 +1,8 @@
 -- The life basis: what it means, and what it holds. Assumes nothing.
-use Rattle.std.specs.Prelude.{◌≡◌, ℕ, ◌-◌, cond, List, map, length, ℤ, pos, vec_items, ◌==◌, nat_lt, slice_index}
+use Rattle.std.specs.Prelude.{◌≡◌, ℕ, ◌-◌, cond, List, map, length, ℤ, pos, Result, MatchResult, vec_items, vec_capacity, ◌==◌, nat_lt, slice_index}
 use Rattle.units.specs.Ranges.{million}
+use Rattle.units.specs.declared.fault.Fault.{Fault}
+use Rattle.basis.specs.LifeColumns.{Fit, Refuses}
 use Rattle.basis.specs.Transitions.{Transitions}
 use Rattle.basis.specs.declared.life.LifeTable.{LifeTable}
 
@@ -25,3 +27,12 @@ life_table s = lives (vec_items s.deaths) s.factor
 pub record Holds (s : LifeTable) (column : List ℤ) (factor : ℤ) : Type 0 where
   pub deaths : map pos (vec_items s.deaths) ≡ column
   pub discount : pos s.factor ≡ factor
+
+-- taking in: what is fit is held, and of what is not the first fault is told, and the table is as it was
+abbrev pub TakesIn : LifeTable → LifeTable → List ℤ → ℤ → Result (Unit {0}) Fault → Type 0
+TakesIn old new column factor result =
+    MatchResult result (λ _. Fit column factor × Holds new column factor) (λ fault. (Fit column factor → ⊥) × Refuses column factor fault × (new ≡ old))
+
+-- the table has the memory that it had
+abbrev pub KeepsCapacity : LifeTable → LifeTable → Type 0
+KeepsCapacity old new = vec_capacity new.deaths ≡ vec_capacity old.deaths

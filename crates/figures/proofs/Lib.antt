@@ -1,2 +1,3 @@
 pub mod LivesFit
+pub mod SheetLines
 pub mod ThreeStatesFit

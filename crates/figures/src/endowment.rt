@@ -4,6 +4,7 @@ ghost use Rattle.units.specs.declared.failure.Failure.TheVariants.{NoMemory};
 ghost use Rattle.basis.specs.LifeTables.{Holds};
 ghost use Rattle.figures.specs.TwoYears.{deaths, factor};
 
+use crate::closing::print_closings;
 use crate::show::{print_course, print_premium, print_refusal, print_spans};
 use basis::life::LifeTable;
 use plan::endowment::Endowment;
@@ -46,6 +47,16 @@ fn print_without_premium(rt: &HostRuntime, basis: &LifeTable) -> anyhow::Result<
     println!(rt; "The same endowment, premium never due")?;
     let plan = Endowment::new(SUM, TERM, 0)?;
     print_refusal(rt, least_premium(basis, &plan, 0, 0, 0))
+}
+
+// The first year of the endowment with a premium, closed.
+pub(crate) fn print_first_year(rt: &HostRuntime) -> anyhow::Result<()> {
+    println!(rt;
+        "The endowment over 2 years, issued at its least premium, and year 0 closed in state 0"
+    )?;
+    let basis = two_years(rt.alloc())?;
+    let plan = Endowment::new(SUM, TERM, TERM)?;
+    print_closings(rt, &basis, plan)
 }
 
 pub(crate) fn print_endowment(rt: &HostRuntime) -> anyhow::Result<()> {

@@ -6,3 +6,4 @@ pub mod Whole
 pub mod Rules
 pub mod Hundredths
 pub mod Rounded
+pub mod Collected

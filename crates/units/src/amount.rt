@@ -1,15 +1,27 @@
 // An amount of a plan or a premium, which lies from 0 to the limit.
-ghost use Rattle.std.specs.Prelude.{◌≡◌, ◌≤◌, pos, MatchOption, MatchResult, codes, Some};
+ghost use Rattle.std.specs.Prelude.{◌≡◌, ◌≤◌, pos, MatchOption, MatchResult, codes, Some, ⊤};
 ghost use Rattle.units.specs.Ranges.{limit, WithinLimit};
 
 use crate::LIMIT;
+use std::alloc::AllocError;
 use std::error::Error;
 use std::fmt;
 
-#[derive(Clone, Copy, PartialEq, Eq, Debug)]
+#[derive(Copy, PartialEq, Eq, Debug)]
 pub struct Amount {
     ticks: u64,
     ghost range: { ticks ≤ limit },
+}
+
+// By hand, to state what a derived clone leaves unsaid here: an amount equals its clone, and cloning wants no memory.
+impl Clone for Amount {
+    ghost is_clone = { λ amount clone. clone ≡ amount };
+
+    ghost is_infallible = { λ _. ⊤ };
+
+    fn clone(&self) -> Result<Amount, AllocError> {
+        Ok(*self)
+    }
 }
 
 impl Amount {
@@ -55,6 +67,8 @@ impl TryFrom<i64> for Amount {
 // By hand: of what a derived display writes, a contract could say nothing.
 impl fmt::Display for OutsideLimit {
     ghost output = { λ _. Some (codes "an amount is outside 0 to the limit") };
+
+    ghost styled_output = { λ _ _. Some (codes "an amount is outside 0 to the limit") };
 
     fn fmt<W: fmt::Write>(&self, f: &mut fmt::Formatter<W>) -> fmt::Result {
         f.write_str("an amount is outside 0 to the limit")

@@ -35,9 +35,11 @@ impl From<AllocError> for Failure {
 impl fmt::Display for Failure {
     ghost output = { λ x. Some (failure_text x) };
 
+    ghost styled_output = { λ x _. Some (failure_text x) };
+
     fn fmt<W: fmt::Write>(&self, f: &mut fmt::Formatter<W>) -> fmt::Result {
         match self {
-            Failure::Refused(fault) => write!(f, "{fault}"),
+            Failure::Refused(fault) => fault.fmt(f),
             Failure::NoMemory => f.write_str("no memory"),
         }
     }

@@ -1,15 +1,19 @@
-// A fault in plain words. By hand: of what a derived display writes, a contract could say nothing.
+// A fault in plain words, the same under every width, sign and `#`. By hand: of what a derived display writes, a contract could say
+// nothing.
 ghost use Rattle.std.specs.Prelude.{◌≡◌, Some};
 ghost use Rattle.units.specs.FaultTexts.{layer_text, place_text, text_of_fault};
 ghost use Rattle.units.specs.Rules.{rule_text};
 
 use crate::fault::{Fault, Layer, Place};
 use crate::rule::Rule;
+use crate::unpadded::write_unpadded;
 use std::error::Error;
 use std::fmt;
 
 impl fmt::Display for Layer {
     ghost output = { λ x. Some (layer_text x) };
+
+    ghost styled_output = { λ x _. Some (layer_text x) };
 
     fn fmt<W: fmt::Write>(&self, f: &mut fmt::Formatter<W>) -> fmt::Result {
         match self {
@@ -25,10 +29,16 @@ impl fmt::Display for Layer {
 impl fmt::Display for Place {
     ghost output = { λ x. Some (place_text x) };
 
+    ghost styled_output = { λ x _. Some (place_text x) };
+
     fn fmt<W: fmt::Write>(&self, f: &mut fmt::Formatter<W>) -> fmt::Result {
         match self {
-            Place::Text { line, offset } => write!(f, "line {line}, offset {offset}"),
-            Place::Entry { year, state } => write!(f, "year {year}, state {state}"),
+            Place::Text { line, offset } => {
+                write_unpadded(f, format_args!("line {line}, offset {offset}"))
+            }
+            Place::Entry { year, state } => {
+                write_unpadded(f, format_args!("year {year}, state {state}"))
+            }
         }
     }
 }
@@ -46,14 +56,16 @@ fn words(number: u8) -> &'static str
 impl fmt::Display for Fault {
     ghost output = { λ x. Some (text_of_fault x) };
 
+    ghost styled_output = { λ x _. Some (text_of_fault x) };
+
     fn fmt<W: fmt::Write>(&self, f: &mut fmt::Formatter<W>) -> fmt::Result {
         let number = self.number;
         let layer = self.layer;
         let place = self.place;
         let words = words(number);
-        write!(
+        write_unpadded(
             f,
-            "refused with {number} by the {layer} at {place}: {words}"
+            format_args!("refused with {number} by the {layer} at {place}: {words}"),
         )
     }
 }

@@ -3,6 +3,7 @@ ghost use Rattle.std.specs.Prelude.{◌≡◌, Some};
 ghost use Rattle.units.specs.Francs.{hundredths, francs};
 
 use crate::rounding::to_nearest;
+use crate::unpadded::write_unpadded;
 use std::fmt;
 
 // An amount in ticks, shown in francs.
@@ -21,15 +22,17 @@ fn hundredths_of(ticks: i64) -> i64
 impl fmt::Display for Francs {
     ghost output = { λ x. Some (francs x.ticks) };
 
+    ghost styled_output = { λ x _. Some (francs x.ticks) };
+
     fn fmt<W: fmt::Write>(&self, f: &mut fmt::Formatter<W>) -> fmt::Result {
         let hundredths = hundredths_of(self.ticks);
         let size = hundredths.unsigned_abs();
         let whole = size / 100;
         let part = size % 100;
         if hundredths < 0 {
-            write!(f, "-{whole}.{part:02}")
+            write_unpadded(f, format_args!("-{whole}.{part:02}"))
         } else {
-            write!(f, "{whole}.{part:02}")
+            write_unpadded(f, format_args!("{whole}.{part:02}"))
         }
     }
 }

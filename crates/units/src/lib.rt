@@ -12,6 +12,7 @@ pub mod rounding;
 pub mod rule;
 #[cfg(test)]
 mod tests;
+mod unpadded;
 
 // The most states and years that a basis or a plan can speak of.
 pub const MOST_STATES: usize = 8;

@@ -3,6 +3,7 @@ ghost use Rattle.std.specs.Prelude.{◌≡◌, Some, ◌++◌, codes, decimal};
 ghost use Rattle.units.specs.Rules.{rule_number, rule_layer, rule_text, Decodes};
 
 use crate::fault::Layer;
+use crate::unpadded::write_unpadded;
 use std::error::Error;
 use std::fmt;
 
@@ -181,6 +182,8 @@ impl TryFrom<u8> for Rule {
 impl fmt::Display for Rule {
     ghost output = { λ x. Some (rule_text (rule_number x)) };
 
+    ghost styled_output = { λ x _. Some (rule_text (rule_number x)) };
+
     fn fmt<W: fmt::Write>(&self, f: &mut fmt::Formatter<W>) -> fmt::Result {
         f.write_str(self.words())
     }
@@ -189,9 +192,11 @@ impl fmt::Display for Rule {
 impl fmt::Display for UnknownRule {
     ghost output = { λ x. Some (codes "no rule goes by " ++ decimal x.0) };
 
+    ghost styled_output = { λ x _. Some (codes "no rule goes by " ++ decimal x.0) };
+
     fn fmt<W: fmt::Write>(&self, f: &mut fmt::Formatter<W>) -> fmt::Result {
         let number = self.0;
-        write!(f, "no rule goes by {number}")
+        write_unpadded(f, format_args!("no rule goes by {number}"))
     }
 }
 

@@ -2,6 +2,7 @@
 use crate::amount::{Amount, OutsideLimit};
 use crate::failure::Failure;
 use crate::fault::{Fault, Layer, Place};
+use crate::francs::Francs;
 use crate::premium::Premium;
 use crate::rounding::nearest;
 use crate::rule::{Rule, UnknownRule};
@@ -218,5 +219,35 @@ fn failures_are_told_in_words(rt: HostRuntime) -> Result<(), Fail> {
         let told = failure.to_string(rt.alloc())?;
         assert!(rt; told.as_str() == words);
     }
+    Ok(())
+}
+
+#[test]
+fn texts_stay_as_they_are_under_a_width_and_a_sign(rt: HostRuntime) -> Result<(), Fail> {
+    let place = Place::Text {
+        line: usize::MAX,
+        offset: usize::MAX,
+    };
+    let layer = Layer::Contract;
+    let fault = Fault {
+        number: 12,
+        layer,
+        place,
+    };
+    let words =
+        "refused with 12 by the contract at line 18446744073709551615, offset 18446744073709551615: a year, a state or the length of a column of a plan is unfit or an entry is out of range";
+    let told = format!(in rt.alloc(); "{fault:#} {fault:>60} {fault:200}")?;
+    let once = format!(in rt.alloc(); "{words} {words} {words}")?;
+    assert!(rt; told.as_str() == once.as_str());
+    let francs = Francs { ticks: -123_450 };
+    let told = format!(in rt.alloc(); "{layer:#} {layer:>60} {francs:#} {francs:>60} {francs:+}")?;
+    assert!(rt; told.as_str() == "contract contract -12.34 -12.34 -12.34");
+    Ok(())
+}
+
+#[test]
+fn amounts_equal_their_clones(rt: HostRuntime) -> Result<(), Fail> {
+    let amount = Amount::try_from(10_000_000_000)?;
+    assert_eq!(rt; amount.clone()?, amount);
     Ok(())
 }

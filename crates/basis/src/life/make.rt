@@ -1,8 +1,8 @@
 // Making a life table, and taking a column in.
-ghost use Rattle.std.specs.Prelude.{◌≡◌, [], ◌∷◌, pos, IfOk, MatchResult};
+ghost use Rattle.std.specs.Prelude.{[], ◌∷◌, pos, IfOk, MatchResult};
 ghost use Rattle.units.specs.Ranges.{million};
 ghost use Rattle.basis.specs.LifeColumns.{Fit, Refuses};
-ghost use Rattle.basis.specs.LifeTables.{Holds};
+ghost use Rattle.basis.specs.LifeTables.{Holds, TakesIn, KeepsCapacity};
 
 use super::{LifeTable, MOST_YEARS};
 use crate::fill::refill;
@@ -41,9 +41,10 @@ impl LifeTable {
         })
     }
 
-    // Takes in a column of death shares and a factor, or says what is first wrong with them and stays as it was.
+    // Takes in a column of death shares and a factor, or says what is first wrong with them and stays as it was. It wants no memory.
     pub fn take_in(&mut self, deaths: &[i64], factor: i64) -> Result<(), Fault>
-        ensures { MatchResult result (λ _. Fit deaths.now factor × Holds self.new deaths.now factor) (λ fault. (Fit deaths.now factor → ⊥) × Refuses deaths.now factor fault × (self.new ≡ self.old)) }
+        ensures outcome { TakesIn self.old self.new deaths.now factor result }
+        ensures capacity { KeepsCapacity self.old self.new }
     {
         check(deaths, factor)?;
         refill(&mut self.deaths, deaths);

@@ -1,8 +1,7 @@
 // Making a table, and taking columns in.
-ghost use Rattle.std.specs.Prelude.{◌≡◌, [], ◌∷◌, pos, IfOk, MatchResult};
+ghost use Rattle.std.specs.Prelude.{[], ◌∷◌, pos, IfOk};
 ghost use Rattle.units.specs.Ranges.{million};
-ghost use Rattle.basis.specs.TransitionColumns.{Fit, Refuses};
-ghost use Rattle.basis.specs.TransitionTables.{Holds};
+ghost use Rattle.basis.specs.TransitionTables.{Holds, TakesIn, KeepsCapacity};
 
 use super::TransitionTable;
 use super::check::Columns;
@@ -27,7 +26,7 @@ impl TransitionTable {
         })
     }
 
-    // Takes in the columns of so many states and years, or says what is first wrong with them and stays as it was.
+    // Takes in the columns of so many states and years, or says what is first wrong with them and stays as it was. It wants no memory.
     pub fn take_in(
         &mut self,
         states: usize,
@@ -35,7 +34,8 @@ impl TransitionTable {
         factors: &[i64],
         shares: &[i64],
     ) -> Result<(), Fault>
-        ensures { MatchResult result (λ _. Fit states years factors.now shares.now × Holds self.new states factors.now shares.now) (λ fault. (Fit states years factors.now shares.now → ⊥) × Refuses states years factors.now shares.now fault × (self.new ≡ self.old)) }
+        ensures outcome { TakesIn self.old self.new states years factors.now shares.now result }
+        ensures capacity { KeepsCapacity self.old self.new }
     {
         let columns = Columns {
             states,

@@ -1,8 +1,7 @@
 // Making a table, and taking columns in.
-ghost use Rattle.std.specs.Prelude.{◌≡◌, ℤ, ◌≤◌, [], length, map, replicate, pos, IfOk, vec_capacity, MatchResult};
+ghost use Rattle.std.specs.Prelude.{◌≡◌, ℤ, ◌≤◌, [], length, map, replicate, pos, IfOk, vec_capacity};
 ghost use Rattle.units.specs.Ranges.{WithinLimit};
-ghost use Rattle.plan.specs.PaymentColumns.{Fit, Refuses};
-ghost use Rattle.plan.specs.PaymentTables.{Holds};
+ghost use Rattle.plan.specs.PaymentTables.{Holds, TakesIn, KeepsCapacity};
 ghost use Rattle.plan.specs.Readings.{MayReadEach, GivesBack};
 
 use super::PaymentTable;
@@ -52,7 +51,7 @@ impl PaymentTable {
         })
     }
 
-    // Takes in the columns of so many years, or says what is first wrong with them and stays as it was.
+    // Takes in the columns of so many years, or says what is first wrong with them and stays as it was. It wants no memory.
     pub fn take_in(
         &mut self,
         years: usize,
@@ -60,7 +59,8 @@ impl PaymentTable {
         marks: &[i64],
         moves: &[i64],
     ) -> Result<(), Fault>
-        ensures { MatchResult result (λ _. Fit years benefits.now marks.now moves.now × Holds self.new years benefits.now marks.now moves.now) (λ fault. (Fit years benefits.now marks.now moves.now → ⊥) × Refuses years benefits.now marks.now moves.now fault × (self.new ≡ self.old)) }
+        ensures outcome { TakesIn self.old self.new years benefits.now marks.now moves.now result }
+        ensures capacity { KeepsCapacity self.old self.new }
     {
         let columns = Columns {
             years,

@@ -5,4 +5,4 @@ use Rattle.figures.proofs.LivesFit.{longest_fit}
 use Rattle.figures.proofs.lives.longest.Goals as goal
 
 pub returns-in_err-take_in : goal.returns-in_err-take_in
-returns-in_err-take_in c = absurd (c.in_err-take_in.ensures.0 (subst (λ column. Fit column factor) (sym c.deaths_by_rule.ensures) longest_fit))
+returns-in_err-take_in c = absurd (c.in_err-take_in.ensures.outcome.0 (subst (λ column. Fit column factor) (sym c.deaths_by_rule.ensures) longest_fit))

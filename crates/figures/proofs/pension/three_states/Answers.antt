@@ -9,9 +9,9 @@ use Rattle.figures.proofs.pension.three_states.Goals as goal
 pub returns-in_err-take_in : goal.returns-in_err-take_in
 returns-in_err-take_in c =
     let column : c.deref.result.now ≡ shares = c.deref.ensures.value ∙ same_from_all_zip _ _ _ c.in_ok-shares.ensures.items (λ x y same. same) in
-    absurd (c.in_err-take_in.ensures.0 (subst (Fit 3 3 factors) (sym column) three_states_fit))
+    absurd (c.in_err-take_in.ensures.outcome.0 (subst (Fit 3 3 factors) (sym column) three_states_fit))
 
 pub returns : goal.returns
 returns c =
     let column : c.deref.result.now ≡ shares = c.deref.ensures.value ∙ same_from_all_zip _ _ _ c.in_ok-shares.ensures.items (λ x y same. same) in
-    subst (Holds c.take_in.new.self 3 factors) column c.in_ok-take_in.ensures.1
+    subst (Holds c.take_in.new.self 3 factors) column c.in_ok-take_in.ensures.outcome.1

@@ -9,10 +9,10 @@ pub returns-in_err-take_in : goal.returns-in_err-take_in
 returns-in_err-take_in c =
     let year : c.deref.result.now ≡ map pos move_year = c.deref.ensures.value ∙ same_from_all_zip _ _ _ c.in_ok-concat.ensures.ok (λ x y same. same) in
     let transfers : c.deref-4.result.now ≡ moves = c.deref-4.ensures.value ∙ c.in_ok-moves.ensures ∙ ap (λ xs. repeat 10 xs ++ []) year in
-    absurd (c.in_err-take_in.ensures.0 (fits_as_capital (c.deref-2.ensures.value ∙ c.in_ok-benefits.ensures) (c.deref-3.ensures.value ∙ c.in_ok-marks.ensures) transfers))
+    absurd (c.in_err-take_in.ensures.outcome.0 (fits_as_capital (c.deref-2.ensures.value ∙ c.in_ok-benefits.ensures) (c.deref-3.ensures.value ∙ c.in_ok-marks.ensures) transfers))
 
 pub returns : goal.returns
 returns c =
     let year : c.deref.result.now ≡ map pos move_year = c.deref.ensures.value ∙ same_from_all_zip _ _ _ c.in_ok-concat.ensures.ok (λ x y same. same) in
     let transfers : c.deref-4.result.now ≡ moves = c.deref-4.ensures.value ∙ c.in_ok-moves.ensures ∙ ap (λ xs. repeat 10 xs ++ []) year in
-    holds_capital _ (c.deref-2.ensures.value ∙ c.in_ok-benefits.ensures) (c.deref-3.ensures.value ∙ c.in_ok-marks.ensures) transfers c.in_ok-take_in.ensures.1
+    holds_capital _ (c.deref-2.ensures.value ∙ c.in_ok-benefits.ensures) (c.deref-3.ensures.value ∙ c.in_ok-marks.ensures) transfers c.in_ok-take_in.ensures.outcome.1

@@ -5,8 +5,8 @@ use Rattle.std.proofs.lemmas.Int.{to_z-of_z}
 use Rattle.basis.proofs.Taken.{unfit}
 use Rattle.basis.proofs.life.LifeTable.take_in.Goals as goal
 
-pub returns-in_err-check : goal.returns-in_err-check
-returns-in_err-check c =
+pub returns-in_err-check-clause-outcome : goal.returns-in_err-check-clause-outcome
+returns-in_err-check-clause-outcome c =
     let p = err_from_is_err_and c.from_residual.result c.from_residual.ensures.1 in
     let fits : SFits w64 c.args.factor = c.ranges.factor in
     let refuses = simp to_z-of_z at c.in_err-check.ensures in

@@ -4,8 +4,8 @@ use Rattle.std.proofs.lemmas.Result.{err_from_is_err_and}
 use Rattle.basis.proofs.Rows.{unfit, fit_entries, most_places}
 use Rattle.basis.proofs.table.TransitionTable.take_in.Goals as goal
 
-pub returns-in_err-check : goal.returns-in_err-check
-returns-in_err-check c =
+pub returns-in_err-check-clause-outcome : goal.returns-in_err-check-clause-outcome
+returns-in_err-check-clause-outcome c =
     let p = err_from_is_err_and c.from_residual.result c.from_residual.ensures.1 in
     let refuses = c.in_err-check.ensures in
     rw (p.1, p.2) (unfit _ _ _ _ _ refuses, refuses, refl)
