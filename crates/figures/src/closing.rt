@@ -9,7 +9,7 @@ use units::fault::Fault;
 fn close_first(basis: &LifeTable, plan: Endowment, rate: i64) -> Result<Closed, Fault> {
     let mut proposal = Proposal::new(basis, plan);
     proposal.price()?;
-    let (mut contract, _opening) = proposal.issue();
+    let mut contract = proposal.issue().contract;
     contract.close(0, rate)
 }
 
