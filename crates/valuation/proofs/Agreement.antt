@@ -8,7 +8,8 @@ use Rattle.units.specs.Ranges.{million, limit}
 use Rattle.units.proofs.Distances.{within_pos, within_more, within_add, within_times}
 use Rattle.basis.specs.Transitions.{Transitions, Lawful, moves}
 use Rattle.plan.specs.Payments.{Payments, InRange}
-use Rattle.valuation.specs.Figures.{flow, joined, discounted, figure_before, figure_with, figure, IsFigureOf}
+use Rattle.valuation.specs.Figures.{flow, joined, discounted, figure_before, figure_with, figure}
+use Rattle.valuation.specs.Figures.{IsFigureOf}
 use Rattle.valuation.specs.Means.{rounded_mean, rounded_discount, mean, LawfulFigure, LawfulRow, products}
 use Rattle.valuation.specs.Reserves.{expected, present, reserve_with, reserve}
 use Rattle.valuation.proofs.Sums.{unsaturated, weighted_is, products_map, all_map_every}

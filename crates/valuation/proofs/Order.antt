@@ -1,5 +1,6 @@
 -- Who pays at least as much is nowhere valued lower, in any valuation. Assumes nothing.
-use Rattle.std.proofs.Common.{◌≡◌, ℕ, zero, suc, ◌+◌, ◌-◌, ◌<◌, ◌≤◌, Bool, true, false, cond, ◌&&◌, map, nat_lt, List, ℤ, pos, ◌≤ℤ◌, refl, ⊎_elim, arith}
+use Rattle.std.proofs.Common.{◌≡◌, ℕ, zero, suc, ◌+◌, ◌-◌, ◌<◌, ◌≤◌, Bool, true, false, cond, ◌&&◌}
+use Rattle.std.proofs.Common.{map, nat_lt, List, ℤ, pos, ◌≤ℤ◌, refl, ⊎_elim, arith}
 use borrow.Author.Differences.{ints}
 use Rattle.std.specs.List.{AllZip, range_with_len}
 use Rattle.std.proofs.lemmas.Bool.Decides.{nat_tests, leb_tells}
@@ -30,17 +31,29 @@ flow_keeps c less more dearer cheaper i u premiums benefits marks =
     let charge = charge_keeps (nat_lt u c.years) (less.due i u) (more.due i u) cheaper dearer (λ early. marks (grind (arith, nat_tests))) premiums in
     omega (arith, ints, charge, benefits)
 
-module _ {F : Type 0} (ends : F → List ℤ) (v : Operations F) (law : Ordered ends v) (c : Transitions) where
+module _ {F : Type 0} (ends : F → List ℤ) (v : Operations F) (law : Ordered ends v)
+    (c : Transitions) where
   -- flows and move benefits are compared in states below m, of which the basis has no more, from year t on
   module _ (less more : Payments) (dearer cheaper m t : ℕ) (states : c.states ≤ m)
       (flows : (i u : ℕ) → i < m → t ≤ u → u ≤ c.years → flow c less dearer i u ≤ℤ flow c more cheaper i u)
       (paid : (i j u : ℕ) → i < m → j < c.states → t ≤ u → u < c.years → less.move_benefit i j u ≤ more.move_benefit i j u) where
-    figure_with_keeps : (k i u : ℕ) → i < m → t ≤ u → u + k ≡ c.years → EndByEnd ends (figure_with v c less dearer k i u) (figure_with v c more cheaper k i u)
+    abbrev lower : ℕ → ℕ → ℕ → F
+    lower = figure_with v c less dearer
+
+    abbrev upper : ℕ → ℕ → ℕ → F
+    upper = figure_with v c more cheaper
+
+    figure_with_keeps : (k i u : ℕ) → i < m → t ≤ u → u + k ≡ c.years →
+        EndByEnd ends (lower k i u) (upper k i u)
     figure_with_keeps zero i u inside l e = law.make_keeps _ _ (flows i u inside l (omega arith))
     figure_with_keeps (suc k) i u inside l e =
-        let next : (j : ℕ) → j < c.states → EndByEnd ends (v.add (figure_with v c less dearer k j (u + 1)) (pos (less.move_benefit i j u))) (v.add (figure_with v c more cheaper k j (u + 1)) (pos (more.move_benefit i j u))) = λ j below.
+        let less_after : ℕ → F = λ j. v.add (lower k j (u + 1)) (pos (less.move_benefit i j u)) in
+        let more_after : ℕ → F = λ j. v.add (upper k j (u + 1)) (pos (more.move_benefit i j u)) in
+        let next : (j : ℕ) → j < c.states → EndByEnd ends (less_after j) (more_after j) = λ j below.
         law.add_keeps _ _ _ _ (figure_with_keeps k j (u + 1) (omega arith) (omega arith) (omega arith)) (omega (arith, ints, paid i j u inside below l (omega arith))) in
-        law.add_keeps _ _ _ _ (law.discount_keeps _ _ _ (law.join_keeps i _ _ _ (zip_below (EndByEnd ends) _ _ c.states next))) (flows i u inside l (omega arith))
+        let zipped = zip_below (EndByEnd ends) less_after more_after c.states next in
+        let discounted = law.discount_keeps (c.factor u) _ _ (law.join_keeps i _ _ _ zipped) in
+        law.add_keeps _ _ _ _ discounted (flows i u inside l (omega arith))
 
   pub nowhere_valued_lower : NowhereValuedLower ends c (figure v c)
   nowhere_valued_lower t less dearer more cheaper pays i u inside l early =

@@ -37,12 +37,14 @@ whole_mean = record {
   discount = λ factor x. rounded_discount (pos factor *ℤ x);
 }
 
-products_keeps : (row : List ℕ) (xs ys : List ℤ) → AllZip (EndByEnd mean_ends) xs ys → products row xs ≤ℤ products row ys
+products_keeps : (row : List ℕ) (xs ys : List ℤ) → AllZip (EndByEnd mean_ends) xs ys →
+    products row xs ≤ℤ products row ys
 products_keeps [] xs ys k = omega (arith, ints)
 products_keeps (p ∷ ps) [] [] k = omega (arith, ints)
 products_keeps (p ∷ ps) [] (y ∷ ys) k = absurd k
 products_keeps (p ∷ ps) (x ∷ xs) [] k = absurd k
-products_keeps (p ∷ ps) (x ∷ xs) (y ∷ ys) k = omega (arith, ints, times_le p x y k.0.0, products_keeps ps xs ys k.1)
+products_keeps (p ∷ ps) (x ∷ xs) (y ∷ ys) k =
+    omega (arith, ints, times_le p x y k.0.0, products_keeps ps xs ys k.1)
 
 whole_mean_ordered : Ordered mean_ends whole_mean
 unfolding discount
@@ -77,7 +79,10 @@ whole_span_ordered = record {
   make_keeps = λ a b h. (h, (h, tt));
   add_keeps = λ x y a b h k. (omega (arith, ints, h.0, k), (omega (arith, ints, h.1.0, k), tt));
   join_keeps = λ i row xs ys h. hull_keeps _ _ (possible_keeps (EndByEnd span_ends) row xs ys h);
-  discount_keeps = λ factor x y h. (discount_keeps factor x.least y.least h.0, (discount_keeps factor x.greatest y.greatest h.1.0, tt));
+  discount_keeps = λ factor x y h. (
+    discount_keeps factor x.least y.least h.0,
+    (discount_keeps factor x.greatest y.greatest h.1.0, tt),
+  );
 }
 
 module _ (c : Transitions) (p : Payments) (premium : ℕ) where
@@ -104,13 +109,21 @@ module _ (c : Transitions) where
   spans_same = λ u p premium i t. span_with_is c p premium (c.years - t) i t u
 
   pub reserve_nowhere_lower : NowhereValuedLower mean_ends c (reserve c)
-  reserve_nowhere_lower = subst (NowhereValuedLower mean_ends c) reserves_same (nowhere_valued_lower mean_ends whole_mean whole_mean_ordered c)
+  reserve_nowhere_lower =
+      subst (NowhereValuedLower mean_ends c) reserves_same
+      (nowhere_valued_lower mean_ends whole_mean whole_mean_ordered c)
 
   pub reserve_never_raised : NeverRaisedByPremium mean_ends c (reserve c)
-  reserve_never_raised = subst (NeverRaisedByPremium mean_ends c) reserves_same (never_raised_by_premium mean_ends whole_mean whole_mean_ordered c)
+  reserve_never_raised =
+      subst (NeverRaisedByPremium mean_ends c) reserves_same
+      (never_raised_by_premium mean_ends whole_mean whole_mean_ordered c)
 
   pub span_nowhere_lower : NowhereValuedLower span_ends c (ends c)
-  span_nowhere_lower = subst (NowhereValuedLower span_ends c) spans_same (nowhere_valued_lower span_ends whole_span whole_span_ordered c)
+  span_nowhere_lower =
+      subst (NowhereValuedLower span_ends c) spans_same
+      (nowhere_valued_lower span_ends whole_span whole_span_ordered c)
 
   pub span_never_raised : NeverRaisedByPremium span_ends c (ends c)
-  span_never_raised = subst (NeverRaisedByPremium span_ends c) spans_same (never_raised_by_premium span_ends whole_span whole_span_ordered c)
+  span_never_raised =
+      subst (NeverRaisedByPremium span_ends c) spans_same
+      (never_raised_by_premium span_ends whole_span whole_span_ordered c)

@@ -10,7 +10,12 @@ too_cheap : Suffices worked_basis worked_plan 0 0 (pos 0) 452486 → ⊥
 too_cheap suffices = let no : pos 1 ≤ℤ pos 0 = suffices in omega (arith, ints, no)
 
 pub worked_rounding : WorkedRounding
-worked_rounding = record { half = refl; below_half = refl; half_below_nought = refl; past_half_below_nought = refl }
+worked_rounding = record {
+  half = refl;
+  below_half = refl;
+  half_below_nought = refl;
+  past_half_below_nought = refl;
+}
 
 pub worked_figures : WorkedFigures worked_basis
 worked_figures = record {

@@ -18,8 +18,11 @@ module _ {F : Type 0} (ends : F → List ℤ) (c : Transitions) (value : Payment
   abbrev pub NowhereValuedLower : Type 0
   NowhereValuedLower =
       (t : ℕ) (less : Payments) (dearer : ℕ) (more : Payments) (cheaper : ℕ) → PaysAtLeastAsMuch c t less dearer more cheaper →
-      (i u : ℕ) → i < c.states → t ≤ u → u ≤ c.years → EndByEnd ends (value less dearer i u) (value more cheaper i u)
+      (i u : ℕ) → i < c.states → t ≤ u → u ≤ c.years →
+      EndByEnd ends (value less dearer i u) (value more cheaper i u)
 
   -- a higher premium raises no value, in any state and year
   abbrev pub NeverRaisedByPremium : Type 0
-  NeverRaisedByPremium = (p : Payments) (lower higher : ℕ) → lower ≤ higher → (i t : ℕ) → EndByEnd ends (value p higher i t) (value p lower i t)
+  NeverRaisedByPremium =
+      (p : Payments) (lower higher : ℕ) → lower ≤ higher → (i t : ℕ) →
+      EndByEnd ends (value p higher i t) (value p lower i t)

@@ -1,6 +1,6 @@
 -- The figure of each state and year, backwards from the last year of the basis. Assumes nothing.
-use Rattle.std.specs.Prelude.{◌≡◌, ℕ, zero, suc, ◌+◌, ◌-◌, ◌≤◌, cond, ◌&&◌, List, map, flat_map, get_or}
-use Rattle.std.specs.Prelude.{ℤ, pos, ◌-ℤ◌, nat_lt}
+use Rattle.std.specs.Prelude.{◌≡◌, ℕ, zero, suc, ◌+◌, ◌-◌, ◌≤◌, nat_lt, cond, ◌&&◌}
+use Rattle.std.specs.Prelude.{List, map, flat_map, get_or, ℤ, pos, ◌-ℤ◌}
 use Rattle.std.specs.List.{range_with_len}
 use Rattle.units.specs.Ranges.{limit}
 use Rattle.basis.specs.Transitions.{Transitions, Lawful, moves}

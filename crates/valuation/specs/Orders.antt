@@ -18,7 +18,8 @@ rounded_discount_keeps = to_nearest.keeps_order
 pub saturated_keeps : (x y : ℤ) → x ≤ℤ y → saturate_to_bits 63 x ≤ℤ saturate_to_bits 63 y
 saturated_keeps x y h = grind (arith, ints)
 
-weighted_keeps : (row : List ℕ) (a b : ℤ) (xs ys : List ℤ) → a ≤ℤ b → AllZip (EndByEnd mean_ends) xs ys → weighted a row xs ≤ℤ weighted b row ys
+weighted_keeps : (row : List ℕ) (a b : ℤ) (xs ys : List ℤ) → a ≤ℤ b →
+    AllZip (EndByEnd mean_ends) xs ys → weighted a row xs ≤ℤ weighted b row ys
 weighted_keeps [] a b xs ys h k = h
 weighted_keeps (p ∷ ps) a b [] [] h k = h
 weighted_keeps (p ∷ ps) a b [] (y ∷ ys) h k = absurd k
@@ -34,6 +35,9 @@ pub mean_ordered : Ordered mean_ends mean
 mean_ordered = record {
   make_keeps = λ a b h. (h, tt);
   add_keeps = λ x y a b h k. (saturated_keeps (x +ℤ a) (y +ℤ b) (omega (arith, ints, h.0, k)), tt);
-  join_keeps = λ i row xs ys h. (rounded_mean_keeps _ _ (weighted_keeps row (pos 0) (pos 0) xs ys (omega (arith, ints)) h), tt);
-  discount_keeps = λ factor x y h. (rounded_discount_keeps _ _ (saturated_keeps _ _ (times_le factor x y h.0)), tt);
+  join_keeps = λ i row xs ys h.
+      let sums = weighted_keeps row (pos 0) (pos 0) xs ys (omega (arith, ints)) h in
+      (rounded_mean_keeps _ _ sums, tt);
+  discount_keeps = λ factor x y h.
+      (rounded_discount_keeps _ _ (saturated_keeps _ _ (times_le factor x y h.0)), tt);
 }

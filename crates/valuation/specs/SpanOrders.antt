@@ -42,11 +42,13 @@ zip_map_keeps below order f each [] (y ∷ ys) k = absurd k
 zip_map_keeps below order f each (x ∷ xs) [] k = absurd k
 zip_map_keeps below order f each (x ∷ xs) (y ∷ ys) k = (each x y k.0, zip_map_keeps below order f each xs ys k.1)
 
-pub hull_keeps : (xs ys : List Ends) → AllZip (EndByEnd span_ends) xs ys → EndByEnd span_ends (hull xs) (hull ys)
-hull_keeps xs ys k = (
-  smallest_keeps _ _ (zip_map_keeps (EndByEnd span_ends) ◌≤ℤ◌ (λ x. x.least) (λ x y h. h.0) xs ys k),
-  (largest_keeps _ _ (zip_map_keeps (EndByEnd span_ends) ◌≤ℤ◌ (λ x. x.greatest) (λ x y h. h.1.0) xs ys k), tt),
-)
+pub hull_keeps : (xs ys : List Ends) → AllZip (EndByEnd span_ends) xs ys →
+    EndByEnd span_ends (hull xs) (hull ys)
+hull_keeps xs ys k =
+    let below = EndByEnd span_ends in
+    let least = zip_map_keeps below ◌≤ℤ◌ (λ x. x.least) (λ x y h. h.0) xs ys k in
+    let greatest = zip_map_keeps below ◌≤ℤ◌ (λ x. x.greatest) (λ x y h. h.1.0) xs ys k in
+    (smallest_keeps _ _ least, (largest_keeps _ _ greatest, tt))
 
 -- a move counts or does not, whatever figure follows it
 counted_keeps : {F : Type 0} (order : F → F → Type 0) (b : Bool) (x y : F) (xs ys : List F) → order x y → AllZip order xs ys → AllZip order (cond b (x ∷ xs) xs) (cond b (y ∷ ys) ys)

@@ -31,4 +31,7 @@ pub record WorkedFigures (c : Transitions) : Type 0 where
   pub least_premium : LeastPremium c worked_plan 0 0 (pos 0) 452487
   -- -1.47 ticks, with 24 decimals
   pub exact_at_premium : exact c worked_plan 452487 0 0 ≡ negsuc 1469999999999999999999999
-  pub span_at_premium : ends c worked_plan 452487 0 0 ≡ record { least = negsuc 49724; greatest = pos 447513 }
+  pub span_at_premium : ends c worked_plan 452487 0 0 ≡ record {
+    least = negsuc 49724;
+    greatest = pos 447513;
+  }

@@ -14,7 +14,7 @@ use plan::Plan;
 use units::MOST_STATES;
 use units::premium::Premium;
 
-// What is swept: a plan at a premium, on a basis, in a valuation. Its type has the laws of all three.
+// What is swept: a plan at a premium, on a basis, in a valuation. Its type has the laws of these.
 #[derive(Drop)]
 pub(crate) struct Sweep<'a, V: Valuation, B: Basis, P: Plan> {
     pub(crate) valuation: &'a V,

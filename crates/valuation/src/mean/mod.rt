@@ -3,7 +3,8 @@ ghost use Rattle.std.specs.Prelude.{◌≡◌, ◌≤◌, pos, ◌+ℤ◌, ◌*�
 ghost use Rattle.std.specs.Int.{saturate_to_bits};
 ghost use Rattle.std.specs.List.{AllByRecursion};
 ghost use Rattle.units.specs.Ranges.{million};
-ghost use Rattle.valuation.specs.Means.{rounded_mean, rounded_discount, mean, mean_ends, LawfulFigure, LawfulRow, products};
+ghost use Rattle.valuation.specs.Means.{rounded_mean, rounded_discount, mean, mean_ends};
+ghost use Rattle.valuation.specs.Means.{LawfulFigure, LawfulRow, products};
 ghost use Rattle.valuation.specs.Orders.{mean_told_by_ends, mean_ordered};
 ghost use Rattle.std.proofs.Common.{rules};
 

@@ -4,13 +4,22 @@ use Rattle.valuation.proofs.closing.values.closing_values.Goals as goal
 
 pub ahead_of-requires-clause-year : goal.ahead_of-requires-clause-year
 ahead_of-requires-clause-year g c =
-    early (g.B.Basis.meaning c.args.step.now.basis.now) (g.met.B.Basis.lawful c.args.step.now.basis.now) _ _ _ c.args.step.now.possible
+    let step = c.args.step.now in
+    early (g.B.Basis.meaning step.basis.now) (g.met.B.Basis.lawful step.basis.now) _ _ _
+    step.possible
 
 pub ahead_of-requires-clause-end : goal.ahead_of-requires-clause-end
 ahead_of-requires-clause-end g c =
-    to_inside (g.B.Basis.meaning c.args.step.now.basis.now) (g.met.B.Basis.lawful c.args.step.now.basis.now) _ _ _ c.args.step.now.possible
+    let step = c.args.step.now in
+    to_inside (g.B.Basis.meaning step.basis.now) (g.met.B.Basis.lawful step.basis.now) _ _ _
+    step.possible
 
 pub returns : goal.returns
 returns g c =
     let step = c.args.step.now in
-    closing_values (g.B.Basis.meaning step.basis.now) (g.met.B.Basis.lawful step.basis.now) (g.P.Plan.payments c.args.plan.now) (g.met.P.Plan.bounded c.args.plan.now) c.args.premium.ticks c.args.premium.range step.from step.year step.to step.possible _ _ _ (Prim.search rules) (Prim.search rules) (Prim.search rules)
+    let plan = c.args.plan.now in
+    let premium = c.args.premium in
+    closing_values (g.B.Basis.meaning step.basis.now) (g.met.B.Basis.lawful step.basis.now)
+    (g.P.Plan.payments plan) (g.met.P.Plan.bounded plan) premium.ticks premium.range
+    step.from step.year step.to step.possible _ _ _
+    (Prim.search rules) (Prim.search rules) (Prim.search rules)

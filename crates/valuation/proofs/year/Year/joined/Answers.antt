@@ -8,4 +8,5 @@ returns g c =
     let year = c.args.self.now in
     let sweep = year.sweep.now in
     c.join_moves.ensures year.fits
-    ∙ joined_from_is (operations_of sweep) (transitions_of sweep) (payments_of sweep) c.args.state year.year (λ j. figure_at sweep j (year.year + 1)) year.after.now year.known
+    ∙ joined_from_is (operations_of sweep) (transitions_of sweep) (payments_of sweep) c.args.state
+    year.year (λ j. figure_at sweep j (year.year + 1)) year.after.now year.known
