@@ -1,6 +1,6 @@
 #!/usr/bin/env python3
-"""Figures for comparison, computed apart from the engine: premiums, reserves, spans, courses and a closing, all in ticks, and sheets at their
-bounds.
+"""Figures for comparison, computed apart from the engine: premiums, reserves, spans, courses and a closing, all in
+ticks, and sheets at their bounds.
 
 Prints what the program `figures` has to write. Each span is computed a second time, from every single path, and what
 differs, or is not what was worked by hand, ends the program with an error.

@@ -28,10 +28,11 @@ pub record Holds (s : LifeTable) (column : List ℤ) (factor : ℤ) : Type 0 whe
   pub deaths : map pos (vec_items s.deaths) ≡ column
   pub discount : pos s.factor ≡ factor
 
--- taking in: what is fit is held, and of what is not the first fault is told, and the table is as it was
+-- taking in: what is fit is held; of what is not the first fault is told, and the table stays
 abbrev pub TakesIn : LifeTable → LifeTable → List ℤ → ℤ → Result (Unit {0}) Fault → Type 0
-TakesIn old new column factor result =
-    MatchResult result (λ _. Fit column factor × Holds new column factor) (λ fault. (Fit column factor → ⊥) × Refuses column factor fault × (new ≡ old))
+TakesIn old new column factor result = MatchResult result
+    (λ _. Fit column factor × Holds new column factor)
+    (λ fault. (Fit column factor → ⊥) × Refuses column factor fault × (new ≡ old))
 
 -- the table has the memory that it had
 abbrev pub KeepsCapacity : LifeTable → LifeTable → Type 0

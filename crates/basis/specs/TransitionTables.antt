@@ -24,10 +24,12 @@ pub record Holds (s : TransitionTable) (m : ℕ) (factors shares : List ℤ) : T
   pub discount : map pos (vec_items s.factors) ≡ factors
   pub moves : map pos (vec_items s.shares) ≡ shares
 
--- taking in: what is fit is held, and of what is not the first fault is told, and the table is as it was
-abbrev pub TakesIn : TransitionTable → TransitionTable → ℕ → ℕ → List ℤ → List ℤ → Result (Unit {0}) Fault → Type 0
-TakesIn old new m n factors shares result =
-    MatchResult result (λ _. Fit m n factors shares × Holds new m factors shares) (λ fault. (Fit m n factors shares → ⊥) × Refuses m n factors shares fault × (new ≡ old))
+-- taking in: what is fit is held; of what is not the first fault is told, and the table stays
+abbrev pub TakesIn : TransitionTable → TransitionTable → ℕ → ℕ → List ℤ → List ℤ
+    → Result (Unit {0}) Fault → Type 0
+TakesIn old new m n factors shares result = MatchResult result
+    (λ _. Fit m n factors shares × Holds new m factors shares)
+    (λ fault. (Fit m n factors shares → ⊥) × Refuses m n factors shares fault × (new ≡ old))
 
 -- the table has the memory that it had
 pub record KeepsCapacity (old new : TransitionTable) : Type 0 where

@@ -1,4 +1,5 @@
-// Prints figures for comparison, all in ticks: premiums, reserves, spans and courses, sheets at their bounds, and refusals.
+// Prints figures for comparison, all in ticks: premiums, reserves, spans, courses and a closing. And
+// sheets at their bounds, and refusals.
 #![tactic(auto)]
 
 mod closing;

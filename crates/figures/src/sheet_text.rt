@@ -13,8 +13,8 @@ fn write_move<B: Basis>(
     from: usize,
     to: usize,
 ) -> Result<(), AllocError>
-    ensures { OnOk result (string_bytes text.new
-        ≡ string_bytes text.old ++ move_text year from to ((B.meaning basis.now).share from to year)) }
+    ensures { OnOk result (string_bytes text.new ≡ string_bytes text.old
+        ++ move_text year from to ((B.meaning basis.now).share from to year)) }
 {
     let share = basis.share(from, to, year);
     if share == 0 {

@@ -25,10 +25,13 @@ pub record Holds (s : PaymentTable) (k : ℕ) (benefits marks moves : List ℤ) 
   pub signs : mark_column s ≡ marks
   pub transfers : move_column s ≡ moves
 
--- taking in: what is fit is held, and of what is not the first fault is told, and the table is as it was
-abbrev pub TakesIn : PaymentTable → PaymentTable → ℕ → List ℤ → List ℤ → List ℤ → Result (Unit {0}) Fault → Type 0
-TakesIn old new k benefits marks moves result =
-    MatchResult result (λ _. Fit k benefits marks moves × Holds new k benefits marks moves) (λ fault. (Fit k benefits marks moves → ⊥) × Refuses k benefits marks moves fault × (new ≡ old))
+-- taking in: what is fit is held; of what is not the first fault is told, and the table stays
+abbrev pub TakesIn : PaymentTable → PaymentTable → ℕ → List ℤ → List ℤ → List ℤ
+    → Result (Unit {0}) Fault → Type 0
+TakesIn old new k benefits marks moves result = MatchResult result
+    (λ _. Fit k benefits marks moves × Holds new k benefits marks moves)
+    (λ fault. (Fit k benefits marks moves → ⊥) × Refuses k benefits marks moves fault
+    × (new ≡ old))
 
 -- the table has the memory that it had
 pub record KeepsCapacity (old new : PaymentTable) : Type 0 where

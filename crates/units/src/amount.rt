@@ -13,7 +13,7 @@ pub struct Amount {
     ghost range: { ticks ≤ limit },
 }
 
-// By hand, to state what a derived clone leaves unsaid here: an amount equals its clone, and cloning wants no memory.
+// By hand, to state it here: an amount equals its clone, and cloning it wants no memory.
 impl Clone for Amount {
     ghost is_clone = { λ amount clone. clone ≡ amount };
 

@@ -1,5 +1,5 @@
-// A fault in plain words, the same under every width, sign and `#`. By hand: of what a derived display writes, a contract could say
-// nothing.
+// A fault in plain words, the same under every width, sign and `#`. By hand: of what a derived
+// display writes, a contract could say nothing.
 ghost use Rattle.std.specs.Prelude.{◌≡◌, Some};
 ghost use Rattle.units.specs.FaultTexts.{layer_text, place_text, text_of_fault};
 ghost use Rattle.units.specs.Rules.{rule_text};

@@ -41,7 +41,8 @@ impl LifeTable {
         })
     }
 
-    // Takes in a column of death shares and a factor, or says what is first wrong with them and stays as it was. It wants no memory.
+    // Takes in a column of death shares and a factor, or says what is first wrong with them and stays
+    // as it was. It wants no memory.
     pub fn take_in(&mut self, deaths: &[i64], factor: i64) -> Result<(), Fault>
         ensures outcome { TakesIn self.old self.new deaths.now factor result }
         ensures capacity { KeepsCapacity self.old self.new }

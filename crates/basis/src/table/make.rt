@@ -26,7 +26,8 @@ impl TransitionTable {
         })
     }
 
-    // Takes in the columns of so many states and years, or says what is first wrong with them and stays as it was. It wants no memory.
+    // Takes in the columns of so many states and years, or says what is first wrong with them and
+    // stays as it was. It wants no memory.
     pub fn take_in(
         &mut self,
         states: usize,

@@ -51,7 +51,8 @@ impl PaymentTable {
         })
     }
 
-    // Takes in the columns of so many years, or says what is first wrong with them and stays as it was. It wants no memory.
+    // Takes in the columns of so many years, or says what is first wrong with them and stays as it
+    // was. It wants no memory.
     pub fn take_in(
         &mut self,
         years: usize,

@@ -5,4 +5,5 @@ use Rattle.figures.proofs.sheet_text.write_year.Given as goal
 
 abbrev pub invariant-loop-from : goal.invariant-loop-from
 invariant-loop-from g l =
-    string_bytes l.text ≡ string_bytes l.initial.text ++ flat_map (row_text (g.B.Basis.meaning l.basis) l.year) (range_with_len 0 l.from)
+    string_bytes l.text ≡ string_bytes l.initial.text
+    ++ flat_map (row_text (g.B.Basis.meaning l.basis) l.year) (range_with_len 0 l.from)
