@@ -1,17 +1,9 @@
-// The worked contract's first year, closed.
+// The worked contract's first year, closed at the bound of the rate and past it.
 use basis::life::LifeTable;
 use contract::answer::Closed;
-use contract::proposal::Proposal;
+use contract::run::issue;
 use plan::endowment::Endowment;
 use units::fault::Fault;
-
-// Closes year 0 in state 0 at a rate.
-fn close_first(basis: &LifeTable, plan: Endowment, rate: i64) -> Result<Closed, Fault> {
-    let mut proposal = Proposal::new(basis, plan);
-    proposal.price()?;
-    let mut contract = proposal.issue().contract;
-    contract.close(0, rate)
-}
 
 fn print_closed(rt: &HostRuntime, outcome: Result<Closed, Fault>) -> anyhow::Result<()> {
     match outcome {
@@ -35,7 +27,8 @@ pub(crate) fn print_closings(
 ) -> anyhow::Result<()> {
     for rate in [500_000, 500_001] {
         print!(rt; "at a rate of {rate}: ")?;
-        print_closed(rt, close_first(basis, plan, rate))?;
+        let mut contract = issue(basis, plan, 0, 0)?.contract;
+        print_closed(rt, contract.close(0, rate))?;
     }
     Ok(())
 }
