@@ -1,4 +1,5 @@
--- Sums and differences in 64 bits: what they do not hold is the nearest that they do. Assumes nothing.
+-- Sums and differences in 64 bits: what these do not hold is the nearest that they do. Assumes
+-- nothing.
 use Rattle.std.specs.Prelude.{ℤ, ◌+ℤ◌, ◌-ℤ◌}
 use Rattle.std.specs.Int.{saturate_to_bits}
 

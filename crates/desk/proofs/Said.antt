@@ -21,8 +21,8 @@ use Rattle.sheet.specs.declared.spot.Spot.{Spot}
 use Rattle.sheet.proofs.LineParts.{Free, decimal_free}
 use Rattle.desk.specs.CommandChecks.{line_checks, command_checks, kind, kind_checks, finds}
 use Rattle.desk.specs.Commands.{Command, Allowed, AllowedPlan, IsCommandText, IsCommandLine, command_text, letter, fields, needs_contract, issue, close, alter, leave}
-use Rattle.desk.specs.Meanings.{Means, TellsLine}
-use Rattle.desk.specs.Parsing.{Makes, Says}
+use Rattle.desk.specs.Meanings.{Means, Says, TellsLine}
+use Rattle.desk.specs.Parsing.{Makes}
 use Rattle.desk.specs.declared.command.Command as code
 use Rattle.desk.proofs.Told.{command_told}
 use Rattle.desk.proofs.Made.{kept, broken, none_then, some_stays, issue_unbroken, alter_unbroken, close_unbroken}

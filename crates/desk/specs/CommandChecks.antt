@@ -13,7 +13,8 @@ abbrev pub is_signed : List ℕ → Bool
 is_signed [] = false
 is_signed (c ∷ cs) = cond (c == 45) (is_number cs && not (digits_value 10 cs == 0)) (is_number (c ∷ cs))
 
--- what a letter asks for: whether it is that of a command, what each field has to be, and the range of each number by all of them
+-- what a letter asks for: whether it is that of a command, what each field has to be, and the range
+-- of each number by all of them
 pub record Kind : Type 0 where
   pub known : Bool
   pub forms : List (List ℕ → Bool)

@@ -4,7 +4,8 @@ use Rattle.std.specs.Fmt.{signed_decimal}
 use Rattle.std.specs.List.{join_with_byte}
 use Rattle.units.specs.Ranges.{limit}
 
--- to issue an endowment on a deposit, to close a year in a state at a rate, to alter to another endowment, and to leave
+-- to issue an endowment on a deposit, to close a year in a state at a rate, to alter to another
+-- endowment, and to leave
 pub data Command : Type 0 where
   issue : (sum term paying_years deposit : ℕ) → Command
   close : (state : ℕ) (rate : ℤ) → Command

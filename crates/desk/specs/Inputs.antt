@@ -13,7 +13,8 @@ use Rattle.desk.specs.declared.reply.Reply.TheVariants as says
 abbrev pub most_bytes : ℕ
 most_bytes = 60000
 
--- an input that is too long, one that does not begin with a sheet, and a sheet with commands on its basis
+-- an input that is too long, one that does not begin with a sheet, and a sheet with commands on its
+-- basis
 pub data IsAnswer (bytes : List ℕ) : List ℕ → Type 0 where
   too_long : most_bytes < length bytes → IsAnswer bytes (reply_text (says.Refused 1 1 0))
   no_sheet : {fault : Fault} → length bytes ≤ most_bytes → Refuses most bytes fault → IsAnswer bytes (reply_text (told_at start fault))

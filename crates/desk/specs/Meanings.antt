@@ -1,10 +1,15 @@
 -- What the code makes of a line. Assumes nothing.
-use Rattle.std.specs.Prelude.{◌≡◌, ◌⊎◌, ℕ, ℤ, pos}
+use Rattle.std.specs.Prelude.{◌≡◌, ◌⊎◌, ℕ, List, ℤ, pos, Result, Ok, Err, Some, None}
 use Rattle.units.specs.Faults.{text_fault}
 use Rattle.units.specs.declared.fault.Fault.{Fault}
 use Rattle.plan.specs.declared.endowment.Endowment.{Endowment}
+use Rattle.sheet.specs.Checks.{first_broken}
+use Rattle.sheet.specs.Fields.{bytes_of}
+use Rattle.sheet.specs.Lines.{parts}
+use Rattle.sheet.specs.declared.part.Part.{Part}
 use Rattle.sheet.specs.declared.spot.Spot.{Spot}
-use Rattle.desk.specs.Commands.{Command, issue, close, alter, leave}
+use Rattle.desk.specs.CommandChecks.{line_checks}
+use Rattle.desk.specs.Commands.{Command, Allowed, command_text, issue, close, alter, leave}
 use Rattle.desk.specs.declared.command.Command as code
 use Rattle.desk.specs.declared.command.Command.TheVariants as code_of
 
@@ -22,3 +27,18 @@ pub record TellsLine (spot : Spot) (fault : Fault) : Type 0 where
   pub rule :
       ((fault.number ≡ 3) × (offset ≡ spot.offset))
       ⊎ ((fault.number ≡ 4) ⊎ (fault.number ≡ 5))
+
+-- the code's command is this one, its numbers are in their ranges, and the line is its text
+pub record IsSaid (years : ℕ) (line : List ℕ) (command : code.Command) (c : Command) : Type 0 where
+  pub meaning : Means command c
+  pub allowed : Allowed years c
+  pub text : line ≡ command_text c
+
+-- what is made of a line: it breaks no rule and is the text of an allowed command; or the fault is
+-- that of the first rule that it breaks
+abbrev pub Says : ℕ → Part → Result code.Command Fault → Type 0
+Says years line (Ok command) =
+    (first_broken (line_checks years line.spot (parts (bytes_of line))) ≡ None)
+    × ((c : Command) × IsSaid years (bytes_of line) command c)
+Says years line (Err fault) =
+    first_broken (line_checks years line.spot (parts (bytes_of line))) ≡ Some fault

@@ -1,4 +1,5 @@
--- The contract that the desk holds, the ledger that is kept of it, and what comes of a command. Assumes nothing.
+-- The contract that the desk holds, the ledger that is kept of it, and what comes of a command.
+-- Assumes nothing.
 use Rattle.std.specs.Prelude.{◌≡◌, ⊤, Option, Some, None, is_some}
 use Rattle.units.specs.Faults.{text_fault}
 use Rattle.units.specs.declared.fault.Layer.TheVariants.{Sheet as Whole}
@@ -15,7 +16,8 @@ use Rattle.desk.specs.Commands.{Command, needs_contract}
 use Rattle.desk.specs.Sessions.{Does, told_at}
 use Rattle.desk.specs.declared.reply.Reply.{Reply}
 
--- a command does what it asks for; or it does not find a contract, or none, as it needs, and 13 is told at its line
+-- a command does what it asks for; or it does not find a contract, or none, as it needs, and 13 is
+-- told at its line
 pub data Comes (basis : TransitionTable) (spot : Spot) (kept : Option Ledger) (c : Command) :
     Reply → Option Ledger → Type 0 where
   done :

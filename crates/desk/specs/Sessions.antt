@@ -43,7 +43,8 @@ module _ (c : Transitions) where
   abbrev pub issue_told : Terms → Reply
   issue_told x = says.Issued (pos x.premium) (reserve_at c (begun x)) (opening_result c x)
 
-  -- what comes of a command in the line at a spot, where the ledger of a contract is kept or none is
+  -- what comes of a command in the line at a spot, where the ledger of a contract is kept or none
+  -- is
   pub data Does (spot : Spot) : Option Ledger → Command → Reply → Option Ledger → Type 0 where
     issues :
         {s k g d p : ℕ} → AreTerms c (terms_issued s k g d p) → IsPriced c (terms_issued s k g d p) →

@@ -20,7 +20,7 @@ use units::fault::{Fault, Place};
 use units::rule::Rule;
 
 // The contract that the desk holds.
-pub(crate) type Held<'a> = Contract<'a, TransitionTable, Endowment>;
+pub(crate) type HeldContract<'a> = Contract<'a, TransitionTable, Endowment>;
 
 // A refusal in a line: a fault in the text is told where it stands, and one of the contract at the
 // line.
@@ -48,7 +48,7 @@ fn issue_endowment(
     spot: Spot,
     plan: Endowment,
     deposit: i64,
-) -> (Option<Held<'_>>, Reply)
+) -> (Option<HeldContract<'_>>, Reply)
     ensures { (d : ℕ) → pos d ≡ deposit → CarriesOut basis.now spot None
         (issue plan.sum.ticks plan.term plan.paying_years d) result }
 {
@@ -73,7 +73,12 @@ fn issue_endowment(
 }
 
 // Closes the year of the contract.
-fn close_year(contract: Held<'_>, spot: Spot, end: usize, rate: i64) -> (Option<Held<'_>>, Reply)
+fn close_year(
+    contract: HeldContract<'_>,
+    spot: Spot,
+    end: usize,
+    rate: i64,
+) -> (Option<HeldContract<'_>>, Reply)
     ensures { (l : Ledger) → standing contract.entry ≡ l.stands →
         CarriesOut contract.entry.basis.now spot (Some l) (close end rate) result }
 {
@@ -94,7 +99,11 @@ fn close_year(contract: Held<'_>, spot: Spot, end: usize, rate: i64) -> (Option<
 }
 
 // Alters the plan of the contract.
-fn alter_plan(contract: Held<'_>, spot: Spot, plan: Endowment) -> (Option<Held<'_>>, Reply)
+fn alter_plan(
+    contract: HeldContract<'_>,
+    spot: Spot,
+    plan: Endowment,
+) -> (Option<HeldContract<'_>>, Reply)
     ensures { (l : Ledger) → standing contract.entry ≡ l.stands →
         CarriesOut contract.entry.basis.now spot (Some l)
         (alter plan.sum.ticks plan.term plan.paying_years) result }
@@ -115,7 +124,7 @@ fn alter_plan(contract: Held<'_>, spot: Spot, plan: Endowment) -> (Option<Held<'
 }
 
 // Leaves the contract.
-fn leave_contract(contract: Held<'_>, spot: Spot) -> (Option<Held<'_>>, Reply)
+fn leave_contract(contract: HeldContract<'_>, spot: Spot) -> (Option<HeldContract<'_>>, Reply)
     ensures { (l : Ledger) → standing contract.entry ≡ l.stands →
         CarriesOut contract.entry.basis.now spot (Some l) leave result }
 {
@@ -124,7 +133,7 @@ fn leave_contract(contract: Held<'_>, spot: Spot) -> (Option<Held<'_>>, Reply)
 }
 
 // Carries out a command where no contract is held: only an issue is in its place.
-fn begin(basis: &TransitionTable, spot: Spot, command: Command) -> (Option<Held<'_>>, Reply)
+fn begin(basis: &TransitionTable, spot: Spot, command: Command) -> (Option<HeldContract<'_>>, Reply)
     ensures { (c : Meant) → Means command c → CarriesOut basis.now spot None c result }
 {
     match command {
@@ -134,7 +143,11 @@ fn begin(basis: &TransitionTable, spot: Spot, command: Command) -> (Option<Held<
 }
 
 // Carries out a command on the contract that is held: only an issue is out of its place.
-fn go_on(contract: Held<'_>, spot: Spot, command: Command) -> (Option<Held<'_>>, Reply)
+fn go_on(
+    contract: HeldContract<'_>,
+    spot: Spot,
+    command: Command,
+) -> (Option<HeldContract<'_>>, Reply)
     ensures { (c : Meant) (l : Ledger) → Means command c → standing contract.entry ≡ l.stands →
         CarriesOut contract.entry.basis.now spot (Some l) c result }
 {
@@ -149,10 +162,10 @@ fn go_on(contract: Held<'_>, spot: Spot, command: Command) -> (Option<Held<'_>>,
 // Carries out the command of the line at a spot, and gives the contract that is held then.
 pub(crate) fn serve<'a>(
     basis: &'a TransitionTable,
-    held: Option<Held<'a>>,
+    held: Option<HeldContract<'a>>,
     spot: Spot,
     command: Command,
-) -> (Option<Held<'a>>, Reply)
+) -> (Option<HeldContract<'a>>, Reply)
     ensures { (c : Meant) (kept : Option Ledger) → Means command c →
         Keeps basis.now held.entry kept → CarriesOut basis.now spot kept c result }
 {

@@ -1,4 +1,4 @@
-// Prints figures for comparison, all in ticks: premiums, reserves, spans, courses and a closing. And
+// Prints figures for comparison, all in ticks (premiums, reserves, spans, courses and a closing),
 // sheets at their bounds, and refusals.
 #![tactic(auto)]
 

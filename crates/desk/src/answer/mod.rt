@@ -14,7 +14,7 @@ mod tests;
 
 use crate::command::command_of;
 use crate::reply::{Reply, write_reply};
-use crate::serve::{Held, refusal, serve};
+use crate::serve::{HeldContract, refusal, serve};
 use basis::Basis;
 use basis::table::TransitionTable;
 use sheet::part::Part;
@@ -29,9 +29,9 @@ const MOST_BYTES: usize = 60_000;
 // The reply to a line, and the contract that is held after it.
 fn reply_to<'a>(
     basis: &'a TransitionTable,
-    held: Option<Held<'a>>,
+    held: Option<HeldContract<'a>>,
     line: Part<'_>,
-) -> (Option<Held<'a>>, Reply)
+) -> (Option<HeldContract<'a>>, Reply)
     ensures { (kept : Option Ledger) → Keeps basis.now held.entry kept → (then : Option Ledger) × Replies (transition_table basis.now) kept line.entry.spot (bytes_of line.entry) result.1 then × Keeps basis.now result.0 then }
 {
     let spot = line.spot();
@@ -50,7 +50,7 @@ fn answer_commands(
 ) -> Result<(), AllocError>
     ensures { OnOk result ((text : List ℕ) × Session (transition_table basis.now) None rest.entry.spot (bytes_of rest.entry) text × (string_bytes out.new ≡ string_bytes out.old ++ text)) }
 {
-    let mut held: Option<Held<'_>> = None;
+    let mut held: Option<HeldContract<'_>> = None;
     let mut text = rest;
     while !text.bytes().is_empty() {
         let (line, after) = match text.first_line() {

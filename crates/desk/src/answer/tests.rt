@@ -4,7 +4,8 @@ use std::alloc::Global;
 use std::process::Abort;
 use std::test::Fail;
 
-// Ten lines of 122 bytes: commands begin at line 11, offset 122. No move leads from state 1 to state 0.
+// Ten lines of 122 bytes: commands begin at line 11, offset 122. No move leads from state 1 to
+// state 0.
 const SHEET: &str =
     "B;2;2\nD;0;900000\nT;0;0;0;900000\nT;0;0;1;100000\nT;0;1;1;1000000\nD;1;900000\nT;1;0;0;800000\nT;1;0;1;200000\nT;1;1;1;1000000\nE\n";
 
@@ -77,7 +78,8 @@ fn stops_at_a_refused_sheet(rt: HostRuntime) -> Result<(), Fail> {
     Ok(())
 }
 
-// Nothing is answered after a line without a line feed in its first 40 bytes; one of 40 bytes is only no command.
+// Nothing is answered after a line without a line feed in its first 40 bytes; one of 40 bytes is
+// only no command.
 #[test]
 fn stops_at_a_line_that_does_not_end(rt: HostRuntime) -> Result<(), Fail> {
     check(
@@ -140,8 +142,9 @@ fn holds_one_contract_at_a_time(rt: HostRuntime) -> Result<(), Fail> {
     )
 }
 
-// What a contract refuses is told at the first byte of the line. Refusal 21 is out of reach: of 9,999 numbers at most 120 go to closings,
-// as many as there are years, and the shortest alteration has 8 bytes, so that they take more than the 60,000 of an input.
+// What a contract refuses is told at the first byte of the line. Refusal 21 is out of reach: of
+// 9,999 numbers at most 120 go to closings, as many as there are years, and the shortest alteration
+// has 8 bytes, so that they take more than the 60,000 of an input.
 #[test]
 fn tells_what_a_contract_refuses(rt: HostRuntime) -> Result<(), Fail> {
     check(

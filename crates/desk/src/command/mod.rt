@@ -2,8 +2,7 @@
 ghost use Rattle.std.specs.Prelude.{◌≡◌, IfErr, IsOkAnd};
 ghost use Rattle.sheet.specs.Fields.{bytes_of};
 ghost use Rattle.desk.specs.Commands.{Command as Meant, IsCommandText};
-ghost use Rattle.desk.specs.Meanings.{Means, TellsLine};
-ghost use Rattle.desk.specs.Parsing.{Says};
+ghost use Rattle.desk.specs.Meanings.{Means, Says, TellsLine};
 ghost use Rattle.desk.specs.WorkedCommands.{worked_commands, lines_of, worked_lines};
 
 mod fields;
@@ -51,8 +50,8 @@ fn said(line: Part<'_>, years: usize) -> Result<Command, Fault>
     }
 }
 
-// The command of a line without its line feed, on a basis of so many years, or the first rule that the
-// line breaks. Whether a contract stands or not is no rule of the line.
+// The command of a line without its line feed, on a basis of so many years, or the first rule that
+// the line breaks. Whether a contract stands or not is no rule of the line.
 pub fn command_of(line: Part<'_>, years: usize) -> Result<Command, Fault>
     ensures answer { Says years line.entry result }
     ensures every_command { (c : Meant) → IsCommandText years (bytes_of line.entry) c →
