@@ -2,11 +2,13 @@
 use Rattle.std.proofs.Common.{◌≡◌, ℕ, ◌*◌, List, [], ◌∷◌, length, map, take, drop, ℤ, pos, vec_items, refl, sym, ap, ap₂, ◌∙◌, arith}
 use Rattle.std.proofs.lemmas.List.{length-map}
 use Rattle.std.proofs.Math.Seq.{take-append_seam}
+use Rattle.basis.specs.TransitionColumns.{Fit}
 use Rattle.basis.specs.TransitionTables.{transition_table, tabled, Holds}
 use Rattle.basis.specs.declared.table.TransitionTable.{TransitionTable}
-use Rattle.sheet.specs.Readings.{filled, IsRead}
+use Rattle.sheet.specs.Readings.{lengths, filled, IsRead}
 use Rattle.sheet.specs.declared.reading.Reading.{Reading}
 use Rattle.sheet.specs.Sheets.{Sheet, basis_of}
+use Rattle.sheet.specs.Taken.{most, IsTaken}
 
 -- whole numbers that are equal as integers
 pub same_numbers : (xs ys : List ℕ) → map pos xs ≡ map pos ys → xs ≡ ys
@@ -38,10 +40,22 @@ shares_are bytes factors shares factors_after shares_after reading s read =
     let places : reading.years * reading.states * reading.states ≡ s.years * s.states * s.states = rw (read.states, read.years) refl in
     ap (take (reading.years * reading.states * reading.states)) read.shares_filled ∙ front s.shares shares (reading.years * reading.states * reading.states) (sym (length-map s.shares pos) ∙ read.sheet.lawful.size.share_places ∙ sym places)
 
-pub taken : (bytes : List ℕ) (factors shares factors_after shares_after : List ℤ) (reading : Reading) (s : Sheet) (table : TransitionTable) → IsRead bytes factors shares factors_after shares_after reading s → Holds table reading.states (take reading.years factors_after) (take (reading.years * reading.states * reading.states) shares_after) → transition_table table ≡ basis_of s
-taken bytes factors shares factors_after shares_after reading s table read holds =
+basis_is : (bytes : List ℕ) (factors shares factors_after shares_after : List ℤ) (reading : Reading) (s : Sheet) (table : TransitionTable) → IsRead bytes factors shares factors_after shares_after reading s → Holds table reading.states (take reading.years factors_after) (take (reading.years * reading.states * reading.states) shares_after) → transition_table table ≡ basis_of s
+basis_is bytes factors shares factors_after shares_after reading s table read holds =
     table_is table s (record {
       states = holds.states ∙ read.states;
       discount = holds.discount ∙ factors_are bytes factors shares factors_after shares_after reading s read;
       moves = holds.moves ∙ shares_are bytes factors shares factors_after shares_after reading s read;
     })
+
+pub taken : (bytes : List ℕ) (factors shares factors_after shares_after : List ℤ) (reading : Reading) (s : Sheet) (table : TransitionTable) → lengths factors shares ≡ most → IsRead bytes factors shares factors_after shares_after reading s → Holds table reading.states (take reading.years factors_after) (take (reading.years * reading.states * reading.states) shares_after) → IsTaken bytes table reading.rest s
+taken bytes factors shares factors_after shares_after reading s table long read holds = record {
+  sheet = rw long at read.sheet;
+  basis = basis_is bytes factors shares factors_after shares_after reading s table read holds;
+  spot = read.rest;
+}
+
+-- a table can take in what was read
+pub fits : (bytes : List ℕ) (factors shares factors_after shares_after : List ℤ) (reading : Reading) (s : Sheet) → IsRead bytes factors shares factors_after shares_after reading s → Fit reading.states reading.years (take reading.years factors_after) (take (reading.years * reading.states * reading.states) shares_after)
+fits bytes factors shares factors_after shares_after reading s read =
+    rw (factors_are bytes factors shares factors_after shares_after reading s read, shares_are bytes factors shares factors_after shares_after reading s read, read.states, read.years) read.sheet.lawful

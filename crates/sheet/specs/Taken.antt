@@ -1,7 +1,6 @@
--- A sheet taken into a table, and why none is. Assumes nothing.
-use Rattle.std.specs.Prelude.{◌≡◌, ℕ, ⊤, List}
-use Rattle.units.specs.declared.failure.Failure.{Failure}
-use Rattle.units.specs.declared.failure.Failure.TheVariants.{NoMemory, Refused}
+-- A sheet read into a table, and why none is. Assumes nothing.
+use Rattle.std.specs.Prelude.{◌≡◌, ℕ, List, Result, Ok, Err}
+use Rattle.units.specs.declared.fault.Fault.{Fault}
 use Rattle.basis.specs.TransitionTables.{transition_table}
 use Rattle.basis.specs.declared.table.TransitionTable.{TransitionTable}
 use Rattle.sheet.specs.Faults.{Refuses, InText, spot_past}
@@ -21,7 +20,7 @@ pub record IsTaken (bytes : List ℕ) (table : TransitionTable) (rest : Part) (s
   pub basis : transition_table table ≡ basis_of s
   pub spot : rest.spot ≡ spot_past (text_of (basis_of s))
 
--- why none is taken: the bytes are refused as a sheet, or there was no memory for a table
-abbrev pub NotTaken : List ℕ → Failure → Type 0
-NotTaken bytes (Refused fault) = Refuses most bytes fault × InText 2 8 fault
-NotTaken bytes NoMemory = ⊤
+-- a sheet is taken into the table, or the bytes are refused as one and the table is as it was
+abbrev pub ReadsInto : List ℕ → TransitionTable → TransitionTable → Result Part Fault → Type 0
+ReadsInto bytes old new (Ok rest) = (s : Sheet) × IsTaken bytes new rest s
+ReadsInto bytes old new (Err fault) = Refuses most bytes fault × InText 2 8 fault × (new ≡ old)

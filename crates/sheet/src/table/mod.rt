@@ -1,7 +1,11 @@
-// A sheet, taken into a table.
-ghost use Rattle.std.specs.Prelude.{MatchResult};
-ghost use Rattle.sheet.specs.Sheets.{Sheet};
-ghost use Rattle.sheet.specs.Taken.{IsTaken, NotTaken};
+// A sheet, read into a table.
+ghost use Rattle.std.specs.Prelude.{◌≡◌, ℕ, List, IsOkAnd, Err};
+ghost use Rattle.units.specs.declared.fault.Fault.{Fault};
+ghost use Rattle.basis.specs.TransitionTables.{KeepsCapacity};
+ghost use Rattle.sheet.specs.Faults.{Refuses};
+ghost use Rattle.sheet.specs.Fields.{bytes_of};
+ghost use Rattle.sheet.specs.Sheets.{Sheet, IsSheet};
+ghost use Rattle.sheet.specs.Taken.{most, IsTaken, ReadsInto};
 
 #[cfg(test)]
 mod tests;
@@ -9,20 +13,21 @@ mod tests;
 use crate::part::Part;
 use crate::read::read;
 use basis::table::TransitionTable;
-use std::alloc::Global;
-use units::failure::Failure;
+use units::fault::Fault;
 use units::{MOST_STATES, MOST_YEARS};
 
-// The basis at the head of the input, and what stands after it. What is refused is refused in reading: a table takes in every sheet
-// that is read.
-pub fn read_table(heap: Global, bytes: &[u8]) -> Result<(TransitionTable, Part<'_>), Failure>
-    ensures { MatchResult result (λ taken. (s : Sheet) × IsTaken bytes.now taken.0 taken.1 s) (λ failure. NotTaken bytes.now failure) }
+// Reads the sheet at the head of the input into a table, and gives what stands after it. It wants no
+// memory. What is refused is refused in reading: a table takes in every sheet that is read.
+pub fn read_into<'a>(table: &mut TransitionTable, bytes: &'a [u8]) -> Result<Part<'a>, Fault>
+    ensures answer { ReadsInto bytes.now table.old table.new result }
+    ensures every_sheet { (s : Sheet) (rest : List ℕ) → IsSheet most bytes.now s rest → IsOkAnd result (λ part. (bytes_of part ≡ rest) × IsTaken bytes.now table.new part s) }
+    ensures every_fault { (fault : Fault) → Refuses most bytes.now fault → (result ≡ Err fault) × (table.new ≡ table.old) }
+    ensures capacity { KeepsCapacity table.old table.new }
 {
     let mut factors = [0; MOST_YEARS];
     let mut shares = [0; MOST_YEARS * MOST_STATES * MOST_STATES];
     let reading = read(bytes, &mut factors, &mut shares)?;
     let (m, n) = (reading.states, reading.years);
-    let mut table = TransitionTable::new(heap)?;
     table.take_in(m, n, &factors[..n], &shares[..n * m * m])?;
-    Ok((table, reading.rest))
+    Ok(reading.rest)
 }
