@@ -1,6 +1,7 @@
 pub mod Forms
 pub mod Made
 pub mod OneAnswer
+pub mod Rooms
 pub mod Said
 pub mod Serving
 pub mod Sittings

@@ -1,5 +1,5 @@
 -- What the desk does, by what the contract answers. Assumes nothing.
-use Rattle.std.proofs.Common.{◌≡◌, ◌≢◌, ℕ, ℤ, pos, Option, Some, None, is_some, true, false, List, refl, sym, ap, subst, ◌∙◌, arith}
+use Rattle.std.proofs.Common.{◌≡◌, ℕ, ℤ, pos, Option, Some, None, is_some, true, false, List, refl, sym, ap, subst, ◌∙◌, arith}
 use Rattle.units.specs.declared.fault.Fault.{Fault}
 use Rattle.basis.specs.Transitions.{Transitions}
 use Rattle.basis.specs.TransitionTables.{transition_table}

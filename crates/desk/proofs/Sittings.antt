@@ -1,6 +1,6 @@
 -- The lines of an input, one after another. Assumes nothing.
-use Rattle.std.proofs.Common.{◌≡◌, ◌≢◌, ℕ, Result, Ok, Err, OnOk, Option, None, false, List, [], ◌++◌, sym, ap, subst, ◌∙◌}
-use Rattle.std.proofs.lemmas.List.{append_assoc, append-nil}
+use Rattle.std.proofs.Common.{◌≡◌, ◌≢◌, ℕ, ◌+◌, ◌≤◌, length, Option, None, false, List, [], ◌∷◌, ◌++◌, sym, ap, subst, ◌∙◌, arith}
+use Rattle.std.proofs.lemmas.List.{append_assoc, append-nil, length-append}
 use Rattle.basis.specs.TransitionTables.{transition_table}
 use Rattle.basis.specs.declared.table.TransitionTable.{TransitionTable}
 use Rattle.basis.specs.declared.Basis.{Ghosts as BasisGhosts}
@@ -12,6 +12,7 @@ use Rattle.sheet.specs.Checks.{ends_in_time}
 use Rattle.sheet.specs.Fields.{bytes_of}
 use Rattle.sheet.specs.FirstLines.{IsFirstLine}
 use Rattle.sheet.specs.Lines.{first_line, after_line, spot_after}
+use Rattle.sheet.proofs.Kept.{line_cut}
 use Rattle.sheet.specs.declared.part.Part.{Part}
 use Rattle.sheet.specs.declared.spot.Spot.{Spot}
 use Rattle.desk.specs.Replies.{reply_text}
@@ -63,6 +64,11 @@ module _ {b : BasisGhosts TransitionTable} {p : PlanGhosts Endowment} (basis : T
         let last = so_far.completed (reply_text reply) (subst (λ r. Session (transition_table basis) so_far.kept text.spot (bytes_of text) (reply_text r)) (sym is) (stops some late)) in
         (so_far.answered ++ reply_text reply, last, writes ∙ ap (λ xs. xs ++ reply_text reply) so_far.behind ∙ append_assoc before so_far.answered (reply_text reply))
 
--- what is known of a text that was written, of the outcome of writing it
-pub wrote : {X E : Type 0} {P Q : Type 0} → (P → Q) → (result : Result X E) → OnOk result P → OnOk result Q
-wrote {P = P} {Q = Q} f result told = elim result as (λ r. OnOk r P → OnOk r Q) [ Ok x ↦ f | Err e ↦ λ t. t ] told
+-- what stands after a line is shorter by a byte at least
+pub shorter_rest : (text line rest : Part) → IsFirstLine text line rest → length (bytes_of rest) + 1 ≤ length (bytes_of text)
+shorter_rest text line rest first =
+    let bytes = bytes_of text in
+    let cut = ap length (line_cut bytes first.in_time) in
+    let sum = length-append (first_line bytes) (10 ∷ after_line bytes) in
+    let same = ap length first.rest_bytes in
+    omega (arith, cut, sum, same)

@@ -1,17 +1,21 @@
 -- What the desk answers to a whole input. Assumes nothing.
-use Rattle.std.specs.Prelude.{ℕ, ◌<◌, ◌≤◌, List, length, None}
+use Rattle.std.specs.Prelude.{ℕ, ◌*◌, ◌<◌, ◌≤◌, List, length, None}
 use Rattle.units.specs.declared.fault.Fault.{Fault}
 use Rattle.sheet.specs.Faults.{Refuses, spot_past}
 use Rattle.sheet.specs.Lines.{start}
 use Rattle.sheet.specs.Sheets.{Sheet, IsSheet, basis_of}
 use Rattle.sheet.specs.Taken.{most}
 use Rattle.sheet.specs.Texts.{text_of}
-use Rattle.desk.specs.Replies.{reply_text}
+use Rattle.desk.specs.Replies.{most_reply_bytes, reply_text}
 use Rattle.desk.specs.Sessions.{Session, told_at}
 use Rattle.desk.specs.declared.reply.Reply.TheVariants as says
 
 abbrev pub most_bytes : ℕ
 most_bytes = 60000
+
+-- no answer has more bytes: each line of an input has one at least, and is answered by one reply
+abbrev pub most_text_bytes : ℕ
+most_text_bytes = most_bytes * most_reply_bytes
 
 -- an input that is too long, one that does not begin with a sheet, and a sheet with commands on its
 -- basis

@@ -4,6 +4,7 @@ pub mod Inputs
 pub mod Meanings
 pub mod Parsing
 pub mod Replies
+pub mod Rooms
 pub mod Serving
 pub mod Sessions
 pub mod WorkedCommands

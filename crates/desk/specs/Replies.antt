@@ -4,9 +4,13 @@ use Rattle.std.specs.Fmt.{signed_decimal}
 use Rattle.desk.specs.declared.reply.Reply.{Reply}
 use Rattle.desk.specs.declared.reply.Reply.TheVariants.{Issued, Closed, Altered, Left, Refused}
 
--- a word, and each field after a semicolon
+-- each field after a semicolon
+abbrev pub fields : List (List ℕ) → List ℕ
+fields fs = flat_map (λ f. 59 ∷ f) fs
+
+-- a word, and then fields
 abbrev pub semicolons : List ℕ → List (List ℕ) → List ℕ
-semicolons word fs = word ++ flat_map (λ f. 59 ∷ f) fs
+semicolons word fs = word ++ fields fs
 
 -- each number in decimal, with a minus where it is below nought
 abbrev pub reply_line : Reply → List ℕ
@@ -20,3 +24,8 @@ reply_line (Refused number line offset) = semicolons (codes "refused") (decimal 
 -- the line with its line feed
 abbrev pub reply_text : Reply → List ℕ
 reply_text reply = reply_line reply ++ 10 ∷ []
+
+-- no line of a reply has more bytes, its line feed counted: a closing with the longest numbers of
+-- 16 and of 64 bits
+abbrev pub most_reply_bytes : ℕ
+most_reply_bytes = 96

@@ -1,6 +1,13 @@
 // The lines of replies.
-use super::{Reply, write_reply};
+use super::{MOST_REPLY_BYTES, Reply, write_reply};
+use std::alloc::{AllocError, Global};
 use std::test::Fail;
+
+fn line_of(heap: Global, reply: Reply) -> Result<String, AllocError> {
+    let mut out = String::with_capacity(heap, MOST_REPLY_BYTES)?;
+    write_reply(&mut out, reply);
+    Ok(out)
+}
 
 #[test]
 fn writes_each_reply_on_a_line(rt: HostRuntime) -> Result<(), Fail> {
@@ -31,13 +38,30 @@ fn writes_each_reply_on_a_line(rt: HostRuntime) -> Result<(), Fail> {
         line: 14,
         offset: 160,
     };
-    let mut out = String::new(rt.alloc());
-    for reply in [issued, closed, altered, left, refused] {
-        write_reply(rt.alloc(), &mut out, reply)?;
+    let cases = [
+        (issued, "issue;452487;-1;1\n"),
+        (closed, "close;2;1;-109000;0;447513\n"),
+        (altered, "alter;9999;0;-3;-2\n"),
+        (left, "leave;0;-7\n"),
+        (refused, "refused;16;14;160\n"),
+    ];
+    for (reply, line) in cases {
+        let written = line_of(rt.alloc(), reply)?;
+        assert_eq!(rt; written.as_str(), line);
     }
-    assert_eq!(rt;
-        out.as_str(),
-        "issue;452487;-1;1\nclose;2;1;-109000;0;447513\nalter;9999;0;-3;-2\nleave;0;-7\nrefused;16;14;160\n"
-    );
+    Ok(())
+}
+
+// No line is longer than that of a closing with the longest numbers.
+#[test]
+fn has_room_for_the_longest_line(rt: HostRuntime) -> Result<(), Fail> {
+    let reply = Reply::Closed {
+        number: u16::MAX,
+        year: usize::MAX,
+        interest_result: i64::MIN,
+        risk_result: i64::MIN,
+        reserve: i64::MIN,
+    };
+    assert_eq!(rt; line_of(rt.alloc(), reply)?.len(), MOST_REPLY_BYTES);
     Ok(())
 }

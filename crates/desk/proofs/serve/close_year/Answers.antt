@@ -1,9 +1,8 @@
 use Rattle.std.proofs.Common.{◌≡◌, rules, refl, ap, subst, Some, w64, to_z, of_z}
-use Rattle.basis.specs.TransitionTables.{transition_table}
 use Rattle.contract.specs.ContractStates.{Enters, ledger_of, standing, year_told}
 use Rattle.contract.specs.Ledgers.{Close, Closed, Refused}
 use Rattle.desk.specs.Serving.{done}
-use Rattle.desk.specs.Sessions.{closes, closes_not, closing_told}
+use Rattle.desk.specs.Sessions.{closes, closes_not}
 use Rattle.desk.proofs.Serving.{entry_of}
 use Rattle.desk.proofs.serve.close_year.Goals as goal
 

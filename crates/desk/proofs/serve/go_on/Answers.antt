@@ -1,4 +1,4 @@
-use Rattle.std.proofs.Common.{◌≡◌, rules, refl, sym, subst, Some, w64, to_z, of_z}
+use Rattle.std.proofs.Common.{◌≡◌, rules, refl, subst, Some, w64, to_z, of_z}
 use Rattle.units.specs.Faults.{text_fault}
 use Rattle.units.specs.declared.fault.Layer.TheVariants.{Sheet as Whole}
 use Rattle.desk.specs.Commands.{close}

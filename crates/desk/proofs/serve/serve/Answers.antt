@@ -1,4 +1,4 @@
-use Rattle.std.proofs.Common.{◌≡◌, rules, subst, Some, None, Option}
+use Rattle.std.proofs.Common.{◌≡◌, rules, subst, Some, None}
 use Rattle.basis.specs.contracts.table.basis.TransitionTableBasis.TheImpl.{ghosts as table_ghosts}
 use Rattle.plan.specs.contracts.endowment.plan.EndowmentPlan.TheImpl.{ghosts as endowment_ghosts}
 use Rattle.desk.specs.Serving.{Keeps, CarriesOut}

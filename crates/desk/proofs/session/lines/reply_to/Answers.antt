@@ -8,7 +8,7 @@ use Rattle.desk.specs.Commands.{IsCommandText}
 use Rattle.desk.specs.Serving.{Comes}
 use Rattle.desk.specs.Sessions.{told_at}
 use Rattle.desk.proofs.Serving.{replies_by, replies_refused}
-use Rattle.desk.proofs.answer.reply_to.Goals as goal
+use Rattle.desk.proofs.session.lines.reply_to.Goals as goal
 
 pub returns-in-Ok : goal.returns-in-Ok
 returns-in-Ok c kept keeps =

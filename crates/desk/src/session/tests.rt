@@ -1,5 +1,5 @@
 // Whole inputs, and what the desk answers to them.
-use super::answer;
+use super::Session;
 use std::alloc::Global;
 use std::process::Abort;
 use std::test::Fail;
@@ -13,10 +13,14 @@ const SHEET: &str =
 type Case = (&'static str, &'static str);
 
 fn check(rt: &impl Abort, heap: Global, cases: &[Case]) -> Result<(), Fail> {
+    let mut session = Session::new(heap)?;
     for (commands, lines) in cases {
         let input = format!(in heap; "{SHEET}{commands}")?;
-        let text = answer(heap, input.as_str().as_bytes())?;
-        assert_eq!(rt; text.as_str(), *lines, "{commands}");
+        assert_eq!(rt;
+            session.answer(input.as_str().as_bytes()),
+            *lines,
+            "{commands}"
+        );
     }
     Ok(())
 }
@@ -25,10 +29,27 @@ fn check(rt: &impl Abort, heap: Global, cases: &[Case]) -> Result<(), Fail> {
 fn answers_a_sheet_and_its_commands(rt: HostRuntime) -> Result<(), Fail> {
     let input =
         b"B;2;2\nD;0;900000\nT;0;0;0;900000\nT;0;0;1;100000\nT;0;1;1;1000000\nD;1;900000\nT;1;0;0;800000\nT;1;0;1;200000\nT;1;1;1;1000000\nE\nQ;1000000;2;2;0\nC;0;120000\nC;1;-10000\nC;1;0\nL\n";
-    let text = answer(rt.alloc(), input)?;
+    let mut session = Session::new(rt.alloc())?;
     assert_eq!(rt;
-        text.as_str(),
+        session.answer(input),
         "issue;452487;-1;1\nclose;1;0;4022;55249;447513\nclose;2;1;-109000;0;0\nrefused;16;14;160\nleave;0;0\n"
+    );
+    Ok(())
+}
+
+// Nothing is left in a session of the input before: neither its basis nor its contract.
+#[test]
+fn answers_one_input_after_another(rt: HostRuntime) -> Result<(), Fail> {
+    let mut session = Session::new(rt.alloc())?;
+    let input = format!(in rt.alloc(); "{SHEET}Q;1000000;2;2;0\n")?;
+    let held = session.answer(input.as_str().as_bytes());
+    assert_eq!(rt; held, "issue;452487;-1;1\n");
+    assert_eq!(rt; session.answer(b"L\n"), "refused;3;1;0\n");
+    let other =
+        b"B;2;1\nD;0;1000000\nT;0;0;0;1000000\nT;0;1;1;1000000\nE\nL\nQ;7;2;0;0\nQ;7;1;1;0\n";
+    assert_eq!(rt;
+        session.answer(other),
+        "refused;13;6;52\nrefused;5;7;58\nissue;7;0;0\n"
     );
     Ok(())
 }
@@ -47,11 +68,13 @@ fn reads_up_to_60_000_bytes(rt: HostRuntime) -> Result<(), Fail> {
     let rest = [b'1'].repeat(rt.alloc(), 60_000 - 138)?;
     input.extend_from_slice(&rest)?;
     assert_eq!(rt; input.len(), 60_000);
-    let read = answer(rt.alloc(), &input)?;
-    assert_eq!(rt; read.as_str(), "issue;452487;-1;1\nrefused;2;12;138\n");
+    let mut session = Session::new(rt.alloc())?;
+    assert_eq!(rt;
+        session.answer(&input),
+        "issue;452487;-1;1\nrefused;2;12;138\n"
+    );
     input.push(b'1')?;
-    let refused = answer(rt.alloc(), &input)?;
-    assert_eq!(rt; refused.as_str(), "refused;1;1;0\n");
+    assert_eq!(rt; session.answer(&input), "refused;1;1;0\n");
     Ok(())
 }
 
@@ -71,9 +94,9 @@ fn stops_at_a_refused_sheet(rt: HostRuntime) -> Result<(), Fail> {
             "refused;8;4;28\n",
         ),
     ];
+    let mut session = Session::new(rt.alloc())?;
     for (input, line) in cases {
-        let text = answer(rt.alloc(), input.as_bytes())?;
-        assert_eq!(rt; text.as_str(), line, "{input}");
+        assert_eq!(rt; session.answer(input.as_bytes()), line, "{input}");
     }
     Ok(())
 }

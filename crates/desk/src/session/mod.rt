@@ -1,0 +1,73 @@
+// A session: all the memory that any input can need, and what is answered in it.
+ghost use Rattle.std.specs.Prelude.{◌≡◌, ◌≤◌, ℕ, List, [], IfOk};
+ghost use Rattle.std.specs.String.{string_bytes, string_capacity};
+ghost use Rattle.desk.specs.Inputs.{IsAnswer, most_text_bytes};
+ghost use Rattle.desk.specs.WorkedInput.{WorkedInput};
+
+mod lines;
+#[cfg(test)]
+mod tests;
+
+use crate::reply::{MOST_REPLY_BYTES, Reply, write_reply};
+use crate::serve::refusal;
+use basis::table::TransitionTable;
+use lines::answer_commands;
+use sheet::spot::Spot;
+use sheet::table::read_into;
+use std::alloc::{AllocError, Global};
+
+// The most bytes of an input.
+pub const MOST_BYTES: usize = 60_000;
+
+// The basis of the sheet that was read last, and the text that was answered last. Each line of an
+// input has a byte at least, and a reply at most.
+#[derive(Drop)]
+pub struct Session {
+    basis: TransitionTable,
+    text: String,
+    ghost room: { most_text_bytes ≤ string_capacity text },
+}
+
+// Writes the answer to an input in the place of a text, over a table for the basis of its sheet.
+fn write_answer(basis: &mut TransitionTable, bytes: &[u8], out: &mut String)
+    requires { most_text_bytes ≤ string_capacity out.old }
+    ensures answer { IsAnswer bytes.now (string_bytes out.new) }
+    ensures room { string_capacity out.old ≤ string_capacity out.new }
+{
+    out.clear();
+    if bytes.len() > MOST_BYTES {
+        let reply = Reply::Refused {
+            number: 1,
+            line: 1,
+            offset: 0,
+        };
+        return write_reply(out, reply);
+    }
+    match read_into(basis, bytes) {
+        Ok(rest) => answer_commands(basis, rest, out),
+        Err(fault) => write_reply(out, refusal(Spot { line: 1, offset: 0 }, fault)),
+    }
+}
+
+impl Session {
+    // Asks for the memory. Want of it is the one failure, and comes here alone.
+    pub fn new(heap: Global) -> Result<Session, AllocError>
+        ensures { IfOk result (λ session. string_bytes session.text ≡ []) }
+    {
+        let basis = TransitionTable::new(heap)?;
+        let text = String::with_capacity(heap, MOST_BYTES * MOST_REPLY_BYTES)?;
+        Ok(Session { basis, text })
+    }
+
+    // The text that answers an input: a sheet, and commands on its basis. What was answered before
+    // makes no difference.
+    #[tactic(auto, using(crate::proofs::WorkedInput::worked, crate::proofs::OneAnswer::one_answer))]
+    pub fn answer(&mut self, bytes: &[u8]) -> &str
+        ensures answer { IsAnswer bytes.now result.now }
+        ensures no_other_answer { (other : List ℕ) → IsAnswer bytes.now other → result.now ≡ other }
+        ensures worked { WorkedInput }
+    {
+        write_answer(&mut self.basis, bytes, &mut self.text);
+        self.text.as_str()
+    }
+}
