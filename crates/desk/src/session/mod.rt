@@ -9,9 +9,8 @@ mod lines;
 mod tests;
 
 use crate::reply::{MOST_REPLY_BYTES, Reply, write_reply};
-use crate::serve::refusal;
 use basis::table::TransitionTable;
-use lines::answer_commands;
+use lines::{answer_commands, write_refusal};
 use sheet::spot::Spot;
 use sheet::table::read_into;
 use std::alloc::{AllocError, Global};
@@ -45,7 +44,7 @@ fn write_answer(basis: &mut TransitionTable, bytes: &[u8], out: &mut String)
     }
     match read_into(basis, bytes) {
         Ok(rest) => answer_commands(basis, rest, out),
-        Err(fault) => write_reply(out, refusal(Spot { line: 1, offset: 0 }, fault)),
+        Err(fault) => write_refusal(out, Spot { line: 1, offset: 0 }, fault),
     }
 }
 

@@ -1,4 +1,4 @@
-use Rattle.std.proofs.Common.{◌≡◌, rules, ◌<◌, ◌≤◌, length}
+use Rattle.std.proofs.Common.{rules, ◌<◌, ◌≤◌, length, refl}
 use Rattle.std.specs.String.{string_bytes}
 use Rattle.sheet.specs.Lines.{start}
 use Rattle.desk.specs.Sessions.{told_at}
@@ -20,6 +20,5 @@ returns-in-Ok-clause-answer c =
 pub returns-in-Err-clause-answer : goal.returns-in-Err-clause-answer
 returns-in-Err-clause-answer c =
     let short : length c.args.bytes.now ≤ 60000 = Prim.search rules in
-    let is : c.refusal.result ≡ told_at start c.in-Err.fault = Prim.search rules in
     let refused = c.in-Err.ensures.answer in
-    refusal_answered c.args.bytes.now (string_bytes c.clear.new.self) (string_bytes c.write_reply-in-Err.new.out) c.clear.ensures.bytes short c.in-Err.fault c.refusal.result refused.0 is c.write_reply-in-Err.ensures.written
+    refusal_answered c.args.bytes.now (string_bytes c.clear.new.self) (string_bytes c.write_refusal.new.out) c.clear.ensures.bytes short c.in-Err.fault (told_at start c.in-Err.fault) refused.0 refl c.write_refusal.ensures.written

@@ -8,7 +8,7 @@ use Rattle.sheet.specs.Checks.{ends_in_time}
 use Rattle.sheet.specs.Fields.{bytes_of}
 use Rattle.sheet.specs.FirstLines.{IsFirstLine}
 use Rattle.desk.specs.Serving.{Keeps}
-use Rattle.desk.specs.Sessions.{Replies}
+use Rattle.desk.specs.Sessions.{Replies, told_at}
 use Rattle.desk.specs.declared.reply.Reply.TheVariants as says
 use Rattle.desk.proofs.Rooms.{room_left}
 use Rattle.desk.proofs.Sittings.{further, ended, stopped, shorter_rest}
@@ -19,8 +19,8 @@ returns-in-Err-clause-answers c =
     let text = c.loop-held.text in
     let some : bytes_of text ≢ [] = Prim.search rules in
     let late : ends_in_time (bytes_of text) ≡ false = Prim.search rules in
-    let reply : c.refusal.result ≡ says.Refused 2 text.spot.line text.spot.offset = Prim.search rules in
-    stopped c.args.basis.now c.args.rest.spot (bytes_of c.args.rest) (string_bytes c.args.out.now) c.loop-held.held text (string_bytes c.loop-held.out) c.loop-held.invariant.ahead some late c.refusal.result (string_bytes c.write_reply.new.out) reply c.write_reply.ensures.written
+    let reply : told_at c.spot.result c.in-Err.fault ≡ says.Refused 2 text.spot.line text.spot.offset = Prim.search rules in
+    stopped c.args.basis.now c.args.rest.spot (bytes_of c.args.rest) (string_bytes c.args.out.now) c.loop-held.held text (string_bytes c.loop-held.out) c.loop-held.invariant.ahead some late (told_at c.spot.result c.in-Err.fault) (string_bytes c.write_refusal.new.out) reply c.write_refusal.ensures.written
 
 pub loop-held-preserved : goal.loop-held-preserved
 loop-held-preserved c =
@@ -29,7 +29,7 @@ loop-held-preserved c =
     let first : IsFirstLine text c.in-Ok.parts.0 c.in-Ok.parts.1 = Prim.search rules in
     let replied : (then : Option Ledger) × Replies (transition_table c.args.basis.now) so_far.kept c.in-Ok.parts.0.spot (bytes_of c.in-Ok.parts.0) c.reply_to-reply.result.1 then × Keeps c.args.basis.now c.reply_to-reply.result.0 then =
     c.reply_to-reply.ensures so_far.kept so_far.keeps in
-    let wrote = c.write_reply-in-loop-held.ensures in
+    let wrote = c.write_reply.ensures in
     let shorter = shorter_rest text c.in-Ok.parts.0 c.in-Ok.parts.1 first in
     record {
       ahead = further c.args.basis.now c.args.rest.spot (bytes_of c.args.rest) (string_bytes c.args.out.now) c.loop-held.held text (string_bytes c.loop-held.out) so_far c.reply_to-reply.result.0 c.in-Ok.parts.0 c.in-Ok.parts.1 c.reply_to-reply.result.1 _ first replied wrote.written;
