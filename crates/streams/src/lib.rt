@@ -3,3 +3,5 @@
 
 pub mod input;
 pub mod output;
+#[cfg(test)]
+mod tests;
