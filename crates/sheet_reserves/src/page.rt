@@ -6,7 +6,7 @@ ghost use Rattle.plan.specs.Endowments.{endowment};
 ghost use Rattle.sheet_reserves.specs.Outcomes.{PageOutcome};
 ghost use Rattle.sheet_reserves.specs.Pages.{heading, opening, row, rows};
 
-use crate::text::write_at_right;
+use crate::text::{write_at_right, write_text};
 use basis::Basis;
 use basis::table::TransitionTable;
 use plan::endowment::Endowment;
@@ -42,18 +42,18 @@ fn write_row(
         let ticks = reserve(basis, plan, premium, state, year);
         write_at_right(out, 12, Francs { ticks }.to_string(heap)?.as_str())?;
     }
-    out.push_str("\n")
+    write_text(out, "\n")
 }
 
 fn write_heading(heap: Global, out: &mut String, states: usize) -> Result<(), AllocError>
     ensures { OnOk result (string_bytes out.new ≡ string_bytes out.old ++ heading states) }
 {
-    out.push_str("year")?;
+    write_text(out, "year")?;
     for state in 0..states {
         write_at_right(out, 11, "state ")?;
-        out.push_str(state.to_string(heap)?.as_str())?;
+        write_text(out, state.to_string(heap)?.as_str())?;
     }
-    out.push_str("\n")
+    write_text(out, "\n")
 }
 
 fn write_opening(
@@ -65,12 +65,12 @@ fn write_opening(
     ensures { OnOk result
         (string_bytes out.new ≡ string_bytes out.old ++ opening years premium.ticks) }
 {
-    out.push_str("Endowment of 1000 francs over ")?;
-    out.push_str(years.to_string(heap)?.as_str())?;
-    out.push_str(" years, yearly premium of ")?;
+    write_text(out, "Endowment of 1000 francs over ")?;
+    write_text(out, years.to_string(heap)?.as_str())?;
+    write_text(out, " years, yearly premium of ")?;
     let ticks = premium.ticks() as i64;
-    out.push_str(Francs { ticks }.to_string(heap)?.as_str())?;
-    out.push_str(" francs\n\n")
+    write_text(out, Francs { ticks }.to_string(heap)?.as_str())?;
+    write_text(out, " francs\n\n")
 }
 
 fn write_rows(

@@ -5,11 +5,18 @@ ghost use Rattle.sheet_reserves.specs.Pages.{at_right};
 
 use std::alloc::AllocError;
 
+// Writes a text.
+pub(crate) fn write_text(out: &mut String, text: &str) -> Result<(), AllocError>
+    ensures { OnOk result (string_bytes out.new ≡ string_bytes out.old ++ text.now) }
+{
+    out.push_str(text)
+}
+
 fn write_spaces(out: &mut String, count: usize) -> Result<(), AllocError>
     ensures { OnOk result (string_bytes out.new ≡ string_bytes out.old ++ replicate count 32) }
 {
     for _ in 0..count {
-        out.push_str(" ")?;
+        write_text(out, " ")?;
     }
     Ok(())
 }
@@ -19,5 +26,5 @@ pub(crate) fn write_at_right(out: &mut String, width: usize, text: &str) -> Resu
     ensures { OnOk result (string_bytes out.new ≡ string_bytes out.old ++ at_right width text.now) }
 {
     write_spaces(out, width.saturating_sub(text.len()))?;
-    out.push_str(text)
+    write_text(out, text)
 }
