@@ -7,6 +7,10 @@ LIVES = [[[900_000, 100_000], [0, MILLION]], [[800_000, 200_000], [0, MILLION]]]
 SHEET = write_sheet([900_000] * 2, LIVES)
 ISSUE = "Q;1000000;2;2;0\n"
 
+# Everybody dies and returns: the sum is paid twice, and no premium but the limit may do.
+RETURNS = write_sheet([MILLION] * 2, [[[0, MILLION], [MILLION, 0]]] * 2)
+DEAREST = "Q;10000000000;2;2;9999999999\nQ;10000000000;2;2;10000000000\nC;1;0\nC;0;0\nL\n"
+
 # A basis of two states and two years, as far as its first year begins, and that of one year.
 BEGUN = "B;2;2\nD;0;1\n"
 YEAR = "B;2;1\nD;0;1\n"
@@ -79,7 +83,7 @@ def edge_inputs():
     """Inputs of the engine at which a rule might be missed."""
     sizes = [MOST_INPUT_BYTES, MOST_INPUT_BYTES + 1, 200_000]
     commands = [SHEET + text for text in COMMANDS] + [filled(SHEET + ISSUE, size) for size in sizes]
-    return edge_sheets() + [text.encode("latin-1") for text in commands]
+    return edge_sheets() + [text.encode("latin-1") for text in [*commands, RETURNS + DEAREST]]
 
 
 def random_factor(random):
