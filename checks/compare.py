@@ -106,7 +106,9 @@ def compare_engine(seed):
 
 
 def compare_sheets(seed):
-    data = inputs.edge_sheets() + list(inputs.random_sheets(random.Random(seed), RANDOM_SHEETS))
+    source = random.Random(seed)
+    data = inputs.edge_sheets() + list(inputs.random_sheets(source, RANDOM_SHEETS))
+    data += inputs.long_sheets()
     errors = (sheet_reserves.answer(each)[1] for each in data)
     told, _ = refusals(errors, rb"refused with (\d+)")
     return compare_inputs("sheet_reserves", sheet_reserves.answer, data, f"refused by {told}")

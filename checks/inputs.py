@@ -74,15 +74,23 @@ def filled(text, size):
     return text + "1" * (size - len(text))
 
 
+# Inputs of the most bytes, and of more.
+SIZES = [MOST_INPUT_BYTES, MOST_INPUT_BYTES + 1, 200_000]
+
+
 def edge_sheets():
     """Sheets that break a rule."""
     return [text.encode("latin-1") for text in SPOILT_SHEETS]
 
 
+def long_sheets():
+    """A sheet in inputs of the most bytes and of more."""
+    return [filled(SHEET, size).encode() for size in SIZES]
+
+
 def edge_inputs():
     """Inputs of the engine at which a rule might be missed."""
-    sizes = [MOST_INPUT_BYTES, MOST_INPUT_BYTES + 1, 200_000]
-    commands = [SHEET + text for text in COMMANDS] + [filled(SHEET + ISSUE, size) for size in sizes]
+    commands = [SHEET + text for text in COMMANDS] + [filled(SHEET + ISSUE, size) for size in SIZES]
     return edge_sheets() + [text.encode("latin-1") for text in [*commands, RETURNS + DEAREST]]
 
 

@@ -44,6 +44,7 @@ def answer(data):
     """What is printed for an input, what is told as an error, and the exit status."""
     text = Text(data)
     try:
+        text.check_size()
         sheet = read_sheet(text)
     except TextRefusal as refusal:
         return b"", f"Error: {refusal}\n".encode(), 1
