@@ -12,11 +12,12 @@ struct Standing {
 }
 
 impl Random {
-    // The sum, the term and the paying years of an endowment, which are seldom fewer than the term.
+    // The sum, the term and the paying years of an endowment, which are seldom fewer than the term,
+    // and more still less often.
     fn terms(&mut self, years: usize) -> String {
         let term = self.count(1, years);
         let paying = if self.one_in(8) {
-            self.count(0, term)
+            self.count(0, term + 1)
         } else {
             term
         };
