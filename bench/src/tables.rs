@@ -140,7 +140,7 @@ fn print_answers(random: &mut Random, program: &Program) -> Result<(), String> {
 
 pub fn print_all(random: &mut Random, program: &Program) -> Result<(), String> {
     println!(
-        "\nNanoseconds, the best of {} rounds in turn, of {} for whole inputs, with tables taken in",
+        "\nNanoseconds, the best of {} rounds in turn, of {} for whole inputs, tables taken in",
         timing::ROUNDS,
         timing::INPUT_ROUNDS
     );
