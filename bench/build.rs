@@ -1,4 +1,5 @@
-// Links the engine, and the part of the kit through which it asks for memory. `run` says where both lie.
+// Links the engine, and the part of the kit through which it asks for memory. `run` says where both
+// lie.
 use std::env;
 
 fn main() {

@@ -3,7 +3,7 @@
 
 Prints what the program `contracts` has to write. The books have to balance after every call.
 """
-from rules import LIMIT, Contract, Refusal, disability, francs
+from rules import LIMIT, Contract, Refusal, disability, endowment, francs
 
 YEARS = 5
 FACTORS = [970_874] * YEARS
@@ -29,11 +29,7 @@ def pension(amount, paying):
 
 def capital(amount):
     """An endowment, whose move from state 0 to 1 is that of the active to the disabled."""
-    return (
-        lambda i, t: amount if i == 0 and t == YEARS else 0,
-        lambda i, t: i == 0 and t < YEARS,
-        lambda i, j, t: amount if (i, j) == (0, 1) and t < YEARS else 0,
-    )
+    return endowment(amount, YEARS, YEARS)
 
 
 PENSION = pension(240_000_000, YEARS)
@@ -55,13 +51,15 @@ def answered(call):
 def close(contract, end, rate):
     interest, risk = contract.close(end, rate)
     contract.balance(contract.reserve())
-    return f"closed with number {contract.number}, result on interest {francs(interest)}, on risk {francs(risk)}"
+    results = f"result on interest {francs(interest)}, on risk {francs(risk)}"
+    return f"closed with number {contract.number}, {results}"
 
 
 def alter(contract, plan):
     result = contract.alter(plan)
     contract.balance(contract.reserve())
-    return f"altered with number {contract.number}, premium {francs(contract.premium)}, result {francs(result)}"
+    terms = f"premium {francs(contract.premium)}, result {francs(result)}"
+    return f"altered with number {contract.number}, {terms}"
 
 
 def leave(contract):
@@ -184,16 +182,16 @@ def show_standing(contract):
         print(answered(lambda: course(contract, length)))
     for amount, paying in ((480_000_000, 0), (300_000_000, YEARS)):
         print(f"alter: {answered(lambda: alter(contract, pension(amount, paying)))}")
-    show_closings(
-        contract,
-        [(8, 500_001), (2, 500_001), (2, -500_001), (2, 500_000), (0, -500_000), (2, -500_000), (8, 500_001)],
-    )
+    refused = [(8, 500_001), (2, 500_001), (2, -500_001)]
+    show_closings(contract, refused)
+    show_closings(contract, [(2, 500_000), (0, -500_000), (2, -500_000), (8, 500_001)])
     print(leave(contract))
 
 
 def show_closings(contract, moves):
     for end, rate in moves:
-        print(f"close in state {end} at a rate of {rate}: {answered(lambda: close(contract, end, rate))}")
+        outcome = answered(lambda: close(contract, end, rate))
+        print(f"close in state {end} at a rate of {rate}: {outcome}")
 
 
 def show_last_number():
@@ -227,7 +225,8 @@ def show_other_capital(contract, amount):
 
 
 def show_kept():
-    print("A capital of 50000 francs to those who become disabled or are active at the end, with its books")
+    who = "those who become disabled or are active at the end"
+    print(f"A capital of 50000 francs to {who}, with its books")
     contract = issued(capital(500_000_000), 0, 10_000_000)
     print(f"issued at a premium of {francs(contract.premium)}")
     show_year(contract, 0, 25_000)
@@ -244,8 +243,8 @@ def show_kept():
 
 def main():
     print("Contracts on a disability basis over 5 years: state 0 is active, 1 disabled, 2 dead")
-    parts = [show_priced, show_unpriced, show_refused_cases, show_left_cases, show_case, show_last_number, show_kept]
-    for show in parts:
+    cases = [show_refused_cases, show_left_cases, show_case]
+    for show in [show_priced, show_unpriced, *cases, show_last_number, show_kept]:
         print()
         show()
 

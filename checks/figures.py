@@ -1,22 +1,14 @@
 #!/usr/bin/env python3
-"""Figures for comparison, computed apart from the engine: premiums, reserves, spans, courses and a closing, all in
-ticks, and sheets at their bounds.
+"""Figures for comparison, computed apart from the engine: premiums, reserves, spans, courses and a
+closing, all in ticks, and sheets at their bounds.
 
-Prints what the program `figures` has to write. Each span is computed a second time, from every single path, and what
-differs, or is not what was worked by hand, ends the program with an error.
+Prints what the program `figures` has to write. Each span is computed a second time, from every
+single path, and what differs, or is not what was worked by hand, ends the program with an error.
 """
-import re
-
-from rules import LIMIT, MILLION, Refusal, least_premium, lives, nearest, refused, reserves, spans
+from rules import LIMIT, MILLION, Refusal, endowment, least_premium, lives, nearest, refused
 from rules import Contract as Kept
-
-
-def endowment(total, term, paying):
-    return (
-        lambda i, t: total if i == 0 and t == term else 0,
-        lambda i, t: i == 0 and t < paying,
-        lambda i, j, t: total if (i, j) == (0, 1) and t < term else 0,
-    )
+from rules import reserves, spans
+from sheets import Text, TextRefusal, read_sheet, write_sheet
 
 
 def annuity(amount, state, first, end, paying):
@@ -97,8 +89,9 @@ def show_endowment():
     print("Endowment of 1000000 ticks over 2 years, premium due in both")
     contract = Contract(factors, shares, endowment(1_000_000, 2, 2))
     premium = show_premium(contract)
-    worked = (premium, contract.at_issue(452_486), contract.at_issue(452_487), contract.spans_at_issue(452_487)[0])
-    assert worked == (452_487, 1, -1, (-49_725, 447_513)), worked
+    reserves_near = (contract.at_issue(452_486), contract.at_issue(452_487))
+    worked = (premium, reserves_near, contract.spans_at_issue(452_487)[0])
+    assert worked == (452_487, (1, -1), (-49_725, 447_513)), worked
     print()
     print("Its reserves and spans in year 0")
     show_spans(contract, premium)
@@ -137,89 +130,22 @@ def show_pension():
     print("the column still holds " + " ".join(map(str, held)))
 
 
-WORDS = {
-    3: ("sheet", "a letter may not stand here or the number of fields differs"),
-    4: ("field", "a field is not 1 to 11 digits without leading nought"),
-    5: ("field", "a number is outside its range"),
-    7: ("sheet", "a year or a pair of states is out of order"),
-    8: ("sheet", "a row misses the million"),
-}
-
-
-class SheetRefusal(Exception):
-    def __init__(self, number, line, offset):
-        layer, words = WORDS[number]
-        super().__init__(f"refused with {number} by the {layer} at line {line}, offset {offset}: {words}")
-
-
-def read_line(letter, ranges, line, number, offset):
-    """The fields of a line: the letter, then as many numbers as there are ranges."""
-    first, *fields = line.split(";")
-    if first != letter or len(fields) != len(ranges):
-        raise SheetRefusal(3, number, offset)
-    starts = [offset + len(letter) + 1 + sum(len(field) + 1 for field in fields[:k]) for k in range(len(fields))]
-    for field, start in zip(fields, starts):
-        if not re.fullmatch("0|[1-9][0-9]{0,10}", field):
-            raise SheetRefusal(4, number, start)
-    for field, start, (least, most) in zip(fields, starts, ranges):
-        if not least <= int(field) <= most:
-            raise SheetRefusal(5, number, start)
-    return [int(field) for field in fields]
-
-
-def read_sheet(text):
-    """The numbers of states and years of a sheet, or the first rule that it breaks."""
-    rest, offset = [], 0
-    for number, line in enumerate(text.splitlines(), 1):
-        rest.append((line, number, offset))
-        offset += len(line) + 1
-    states, years = read_line("B", [(2, 8), (1, 120)], *rest.pop(0))
-    year, last, sums = -1, None, [MILLION] * states
-    while True:
-        line, number, offset = rest.pop(0)
-        if line[:1] == "T" and year >= 0:
-            t, i, j, p = read_line("T", [(0, years - 1), (0, states - 1), (0, states - 1), (1, MILLION)], line, number, offset)
-            if t != year or (last is not None and (i, j) <= last):
-                raise SheetRefusal(7, number, offset)
-            last, sums[i] = (i, j), sums[i] + p
-            continue
-        if line[:1] == "D" and year < years - 1:
-            t, _ = read_line("D", [(0, years - 1), (1, MILLION)], line, number, offset)
-            if t != year + 1:
-                raise SheetRefusal(7, number, offset)
-        elif line != "E" or year < years - 1:
-            raise SheetRefusal(3, number, offset)
-        if sums != [MILLION] * states:
-            raise SheetRefusal(8, number, offset)
-        if line == "E":
-            return states, years
-        year, last, sums = t, None, [0] * states
-
-
-def staying(states, years):
-    """The sheet in which everybody stays and nothing is discounted."""
-    lines = [f"B;{states};{years}"]
-    for t in range(years):
-        lines.append(f"D;{t};{MILLION}")
-        lines.extend(f"T;{t};{i};{i};{MILLION}" for i in range(states))
-    return "\n".join(lines + ["E", ""])
-
-
 def answer(call):
     """What a call answers, or what it is refused with."""
     try:
         return call()
-    except (Refusal, SheetRefusal) as refusal:
+    except (Refusal, TextRefusal) as refusal:
         return str(refusal)
 
 
 def show_sheets():
     print("The sheet of 8 states and 120 years in which everybody stays")
-    states, years = read_sheet(staying(8, 120))
-    print(f"read, with m = {states} and n = {years}")
+    staying = [[MILLION if i == j else 0 for j in range(8)] for i in range(8)]
+    sheet = read_sheet(Text(write_sheet([MILLION] * 120, [staying] * 120).encode()))
+    print(f"read, with m = {sheet.states} and n = {sheet.years}")
     print()
     print("A sheet that begins B;9;1")
-    print(answer(lambda: read_sheet("B;9;1\n")))
+    print(answer(lambda: read_sheet(Text(b"B;9;1\n"))))
 
 
 def close_first(rate):

@@ -1,5 +1,6 @@
 #!/usr/bin/env python3
-"""The page of reserves, computed apart from the engine: by the rules in whole numbers, and from commutation figures.
+"""The page of reserves, computed apart from the engine: by the rules in whole numbers, and from
+commutation figures.
 
 Prints the page by the rules, and on standard error how far the commutation figures are from it.
 """
@@ -8,7 +9,7 @@ import sys
 from fractions import Fraction
 from pathlib import Path
 
-from rules import MILLION, francs, reserves
+from rules import endowment, francs, lives, reserves
 
 DATA = Path(__file__).parent / "data"
 FACTOR = 975_610
@@ -20,10 +21,8 @@ def reserve(deaths, age, total, term, paying, premium, year):
     """The reserve of a living man; the dead are paid nothing more."""
     rows = reserves(
         [FACTOR] * (len(deaths) - age),
-        [[[MILLION - q, q], [0, MILLION]] for q in deaths[age:]],
-        lambda i, t: total if i == 0 and t == term else 0,
-        lambda i, t: i == 0 and t < paying,
-        lambda i, j, t: total if (i, j) == (0, 1) and t < term else 0,
+        lives(deaths[age:]),
+        *endowment(total, term, paying),
         premium,
     )
     return rows[year][0]
@@ -62,8 +61,10 @@ def main():
 
     yearly = 50_000 * (sum(c[50:55]) + d[55]) / sum(d[50:55])
     for key, most in worst.items():
-        print(f"largest difference, with payments at death from {key}: {float(most):.4f} francs", file=sys.stderr)
-    print(f"net yearly premium by the commutation figures: {float(yearly):.4f} francs", file=sys.stderr)
+        found = f"with payments at death from {key}: {float(most):.4f} francs"
+        print(f"largest difference, {found}", file=sys.stderr)
+    found = f"{float(yearly):.4f} francs"
+    print(f"net yearly premium by the commutation figures: {found}", file=sys.stderr)
 
 
 main()

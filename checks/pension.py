@@ -1,8 +1,9 @@
 #!/usr/bin/env python3
 """The reserves of a disability pension, computed apart from the engine.
 
-Prints what the program `pension` has to write, and on standard error how far the reserves are from exact fractions,
-and the least premiums in whole Rappen at which the reserve at issue is not above nought.
+Prints what the program `pension` has to write, and on standard error how far the reserves are from
+exact fractions, and the least premiums in whole Rappen at which the reserve at issue is not above
+nought.
 """
 import sys
 from fractions import Fraction
@@ -44,20 +45,23 @@ def with_capital():
     )
 
 
+def exact_mean(i, t, on_move, later):
+    """The mean of what follows a state, in fractions."""
+    row = enumerate(SHARES[t][i])
+    return sum(Fraction(share, MILLION) * (on_move(i, j, t) + later[j]) for j, share in row)
+
+
 def exact(plan, premium):
     """The same recursion in fractions, without rounding."""
     benefit, due, on_move = plan
-    after = [Fraction(benefit(i, YEARS)) for i in range(3)]
-    rows = [after]
+    rows = [[Fraction(benefit(i, YEARS)) for i in range(3)]]
     for t in reversed(range(YEARS)):
-        v = Fraction(FACTORS[t], MILLION)
-        after = [
-            benefit(i, t)
-            - (premium if due(i, t) else 0)
-            + v * sum(Fraction(SHARES[t][i][j], MILLION) * (on_move(i, j, t) + after[j]) for j in range(3))
+        v, later = Fraction(FACTORS[t], MILLION), rows[0]
+        row = [
+            benefit(i, t) - (premium if due(i, t) else 0) + v * exact_mean(i, t, on_move, later)
             for i in range(3)
         ]
-        rows.insert(0, after)
+        rows.insert(0, row)
     return rows
 
 
@@ -82,7 +86,8 @@ def show(title, plan, premium):
         print(f"{t:>4}" + "".join(f"{francs(v):>12}" for v in row))
     worst = max(abs(a - b) for r, s in zip(rows, exact(plan, premium)) for a, b in zip(r, s))
     least = francs(100 * least_rappen(plan))
-    print(f"least premium {least}, furthest from the exact value {float(worst):.2f} ticks", file=sys.stderr)
+    found = f"furthest from the exact value {float(worst):.2f} ticks"
+    print(f"least premium {least}, {found}", file=sys.stderr)
 
 
 def main():

@@ -30,7 +30,8 @@ def lives(deaths):
 
 
 def disability(disabled, dead, recovered, died):
-    """The shares of the active, who become disabled or die, of the disabled, who recover or die, and of the dead."""
+    """The shares of the active, who become disabled or die, of the disabled, who recover or die,
+    and of the dead."""
     return [
         [MILLION - disabled - dead, disabled, dead],
         [recovered, MILLION - recovered - died, died],
@@ -38,11 +39,20 @@ def disability(disabled, dead, recovered, died):
     ]
 
 
+def endowment(total, term, paying):
+    """What is paid at death and to whoever lives at the term, and when the premium is due."""
+    return (
+        lambda i, t: total if i == 0 and t == term else 0,
+        lambda i, t: i == 0 and t < paying,
+        lambda i, j, t: total if (i, j) == (0, 1) and t < term else 0,
+    )
+
+
 def backwards(factors, shares, benefit, due, on_move, premium, join):
     """The figures of every state, a row for each year from 0 to n.
 
-    shares[t][i][j] is the share of the move from i to j in year t; benefit, due and on_move are functions.
-    join makes one figure of a row of shares and of what follows each move.
+    shares[t][i][j] is the share of the move from i to j in year t; benefit, due and on_move are
+    functions. join makes one figure of a row of shares and of what follows each move.
     """
     n, states = len(factors), range(len(shares[0]))
 
@@ -67,7 +77,7 @@ def reserves(factors, shares, benefit, due, on_move, premium):
 
 
 def spans(factors, shares, benefit, due, on_move, premium):
-    """Each figure is a pair: the smallest and the largest of what follows the moves that have a share."""
+    """Each figure is a pair: the least and the most of what follows the moves with a share."""
 
     def smallest(row, following):
         return min((f for q, f in zip(row, following) if q > 0), default=0)
@@ -75,12 +85,16 @@ def spans(factors, shares, benefit, due, on_move, premium):
     def largest(row, following):
         return max((f for q, f in zip(row, following) if q > 0), default=0)
 
-    ends = [backwards(factors, shares, benefit, due, on_move, premium, pick) for pick in (smallest, largest)]
-    return [list(zip(*rows)) for rows in zip(*ends)]
+    least, greatest = (
+        backwards(factors, shares, benefit, due, on_move, premium, pick)
+        for pick in (smallest, largest)
+    )
+    return [list(zip(*rows)) for rows in zip(least, greatest)]
 
 
 def least_premium(value, bound):
-    """The least premium from 0 to the limit at which a value that no premium raises is not above a bound, if one is."""
+    """The least premium from 0 to the limit at which a value that no premium raises is not above a
+    bound, if one is."""
     low, high = 0, LIMIT + 1
     while low < high:
         mid = (low + high) // 2
@@ -96,10 +110,12 @@ class Refusal(Exception):
 
     def __init__(self, number, year, state):
         super().__init__(refused(number, year, state))
+        self.number = number
 
 
 class Contract:
-    """A contract from its issue to its leaving, with its books. A refused call raises a refusal and changes nothing."""
+    """A contract from its issue to its leaving, with its books. A refused call raises a refusal and
+    changes nothing."""
 
     def __init__(self, factors, shares, plan, start, deposit, premium=None):
         """Issued at a premium, or at the least that will do."""
@@ -158,7 +174,8 @@ class Contract:
         benefit, due, on_move = self.plan
         i, t = self.state, self.year
         after = self.reserves(self.plan, self.premium)[t + 1]
-        joined = nearest(sum(q * (on_move(i, j, t) + after[j]) for j, q in enumerate(self.shares[t][i])))
+        row = enumerate(self.shares[t][i])
+        joined = nearest(sum(q * (on_move(i, j, t) + after[j]) for j, q in row))
         discounted = nearest(self.factors[t] * joined)
         earned = nearest(discounted * rate)
         interest = earned - (joined - discounted)

@@ -1,59 +1,57 @@
 #!/usr/bin/env python3
 """The reserves of an endowment on a sheet, computed apart from the engine.
 
-Prints what the program `sheet_reserves` has to write; with `--sheet`, the sheet that it is given instead.
+Prints what the program `sheet_reserves` has to write for the sheet that is stored with it; with
+`--sheet`, that sheet.
 """
 import csv
 import sys
 from pathlib import Path
 
-from rules import MILLION, francs, least_premium, lives, reserves
+from rules import endowment, francs, least_premium, lives, reserves
+from sheets import Text, TextRefusal, read_sheet, write_sheet
 
 TABLE = Path(__file__).parent / "data" / "swiss-insured-men-1995.csv"
 AGES = range(55, 65)
 # Two and a half per cent for five years, and three after that.
 FACTORS = [975_610] * 5 + [970_874] * 5
 SUM = 10_000_000
-YEARS = len(FACTORS)
 
 
-def shares():
+def stored_sheet():
     with open(TABLE, newline="") as f:
         deaths = {int(row["age"]): int(row["death_share_per_million"]) for row in csv.DictReader(f)}
-    return lives([deaths[age] for age in AGES])
+    return write_sheet(FACTORS, lives([deaths[age] for age in AGES])).encode()
 
 
-def sheet(rows):
-    lines = [f"B;2;{YEARS}"]
-    for t, v in enumerate(FACTORS):
-        lines.append(f"D;{t};{v}")
-        for i, row in enumerate(rows[t]):
-            assert sum(row) == MILLION
-            lines.extend(f"T;{t};{i};{j};{p}" for j, p in enumerate(row) if p)
-    return "\n".join(lines + ["E", ""])
+def page(factors, shares):
+    years = len(factors)
+    plan = endowment(SUM, years, years)
 
-
-def page(rows):
     def at(premium):
-        return reserves(
-            FACTORS,
-            rows,
-            lambda i, t: SUM if i == 0 and t == YEARS else 0,
-            lambda i, t: i == 0 and t < YEARS,
-            lambda i, j, t: SUM if (i, j) == (0, 1) and t < YEARS else 0,
-            premium,
-        )
+        return reserves(factors, shares, *plan, premium)
 
     premium = least_premium(lambda p: at(p)[0][0], 0)
-    yield f"Endowment of 1000 francs over {YEARS} years, yearly premium of {francs(premium)} francs"
+    text = francs(premium)
+    yield f"Endowment of 1000 francs over {years} years, yearly premium of {text} francs"
     yield ""
-    yield "year" + "".join(f"{'state ':>11}{i}" for i in range(2))
+    yield "year" + "".join(f"{'state ':>11}{i}" for i in range(len(shares[0])))
     for t, row in enumerate(at(premium)):
         yield f"{t:>4}" + "".join(f"{francs(v):>12}" for v in row)
 
 
+def answer(data):
+    """What is printed for an input, what is told as an error, and the exit status."""
+    text = Text(data)
+    try:
+        text.check_size()
+        sheet = read_sheet(text)
+    except TextRefusal as refusal:
+        return b"", f"Error: {refusal}\n".encode(), 1
+    lines = page(sheet.factors, sheet.shares)
+    return "".join(f"{line}\n" for line in lines).encode(), b"", 0
+
+
 if __name__ == "__main__":
-    if sys.argv[1:] == ["--sheet"]:
-        sys.stdout.write(sheet(shares()))
-    else:
-        print("\n".join(page(shares())))
+    printed = stored_sheet() if sys.argv[1:] == ["--sheet"] else answer(stored_sheet())[0]
+    sys.stdout.buffer.write(printed)

@@ -26,7 +26,8 @@ fn compare(contract: &Contract, question: &Question, count: usize) -> Result<usi
     ))
 }
 
-// Bounds about the reserves at some premiums, among them those that just suffice and that no premium reaches.
+// Bounds about the reserves at some premiums, among them those that just suffice and that no
+// premium reaches.
 fn bounds(contract: &Contract, state: usize, year: usize, premiums: &[i64]) -> Vec<i64> {
     let question = Question::Reserves {
         state,

@@ -57,7 +57,8 @@ fn compare(sheet: &Sheet) -> Result<Reading, String> {
     ))
 }
 
-// Compares the sheet of a basis, with a rest after it and places to spare: what is read is the basis.
+// Compares the sheet of a basis, with a rest after it and places to spare: what is read is the
+// basis.
 fn compare_lawful(random: &mut Random, basis: &Contract, tally: &mut Tally) -> Result<(), String> {
     let mut sheet = Sheet::of(basis.states, &basis.factors, &basis.shares);
     let length = sheet.text.len();
@@ -86,7 +87,8 @@ fn compare_basis(random: &mut Random, tally: &mut Tally) -> Result<(), String> {
     Ok(())
 }
 
-// Compares the sheets of random bases, whole and spoilt. Answers how often they were read, and refused by each number.
+// Compares the sheets of random bases, whole and spoilt. Answers how often they were read, and
+// refused by each number.
 pub fn compare_all(random: &mut Random) -> Result<Tally, String> {
     let mut tally = [0; 9];
     for _ in 0..BASES {

@@ -100,8 +100,8 @@ unsafe extern "C" {
     ) -> c_uchar;
 }
 
-// Writes what is asked to the places, and answers 0 or the number of the first refusal. Below, each pointer and its length are
-// those of one slice, which outlives the call.
+// Writes what is asked to the places, and answers 0 or the number of the first refusal. Below, each
+// pointer and its length are those of one slice, which outlives the call.
 pub fn answer(contract: &Contract, question: &Question, places: &mut [i64]) -> u8 {
     let columns = Columns::of(contract);
     let (to, count) = (places.as_mut_ptr(), places.len());
@@ -151,7 +151,8 @@ fn spans(columns: &Columns, state: usize, year: usize, premiums: &[i64], places:
     }
 }
 
-// Reads a sheet into the first places of the columns, and answers 0 or the number of the first refusal, which leaves them as they were.
+// Reads a sheet into the first places of the columns, and answers 0 or the number of the first
+// refusal, which leaves them as they were.
 pub fn read_sheet(text: &[u8], factors: &mut [i64], shares: &mut [i64], report: &mut Report) -> u8 {
     unsafe {
         fineochre_read_sheet(

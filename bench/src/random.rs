@@ -54,7 +54,8 @@ impl Random {
         }
     }
 
-    // Shares that add up to a million: everybody in one place, or cut at random, some of them nought.
+    // Shares that add up to a million: everybody in one place, or cut at random, some of them
+    // nought.
     fn row(&mut self, states: usize) -> Vec<i64> {
         let mut shares = vec![0; states];
         let mut left = MILLION;

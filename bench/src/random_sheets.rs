@@ -7,7 +7,7 @@ use crate::sheet::Sheet;
 const LIKELY: &[u8] = b"0123456789;;\n\nBDTEQCAL-+ \r\x00";
 
 // Fields at which a rule might be missed.
-const ODD: [&[u8]; 16] = [
+const ODD: [&[u8]; 17] = [
     b"",
     b"0",
     b"1",
@@ -20,6 +20,7 @@ const ODD: [&[u8]; 16] = [
     b"1000001",
     b"00",
     b"01",
+    b"-0",
     b"-1",
     b"+1",
     b"99999999999",

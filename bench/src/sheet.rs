@@ -8,7 +8,8 @@ pub struct Sheet {
     pub shares: usize,
 }
 
-// What is told of a sheet: its numbers, and the line and the offset where the rest of the text begins, or where a fault stands.
+// What is told of a sheet: its numbers, and the line and the offset where the rest of the text
+// begins, or where a fault stands.
 #[derive(Clone, Copy, Default, PartialEq, Eq, Debug)]
 #[repr(C)]
 pub struct Report {

@@ -1,5 +1,7 @@
 // Tables of times.
+use crate::compare_inputs::{self, Tally};
 use crate::contract::{Contract, LIMIT};
+use crate::program::Program;
 use crate::question::Question;
 use crate::random::Random;
 use crate::timing::{self, Times, Work};
@@ -7,7 +9,12 @@ use crate::timing::{self, Times, Work};
 // The sizes that are timed: states and years.
 const SIZES: [(&str, usize, usize); 3] = [("full", 8, 120), ("middle", 3, 40), ("small", 2, 60)];
 
-// What a table times: how many pieces a round has at each size, and what is asked for them at so many entries.
+// A sheet of all years with every share would leave no room for commands.
+const INPUT_SIZES: [(&str, usize, usize); 3] =
+    [("full", 8, 60), ("middle", 3, 40), ("small", 2, 60)];
+
+// What a table times: how many pieces a round has at each size, and what is asked for them at so
+// many entries.
 struct Table {
     heading: &'static str,
     pieces: [usize; 3],
@@ -114,13 +121,32 @@ fn print_readings(random: &mut Random) {
     }
 }
 
-pub fn print_all(random: &mut Random) {
+// The inputs are near the most bytes that are answered. Both sides answer them the same.
+fn print_answers(random: &mut Random, program: &Program) -> Result<(), String> {
+    print_heading("One input of a sheet and commands, answered");
+    for (name, states, years) in INPUT_SIZES {
+        let input = random.full_input(states, years);
+        let answer = compare_inputs::compare(program, &input)?;
+        let times = timing::compare_answers(program, &input);
+        print_row(name, states, years, &times);
+        let mut tally = Tally::default();
+        tally.count(&answer);
+        let refused: usize = tally.refused.iter().sum();
+        let (bytes, commands) = (input.len(), tally.lines);
+        println!("        {bytes} bytes, {commands} commands, {refused} of them refused");
+    }
+    Ok(())
+}
+
+pub fn print_all(random: &mut Random, program: &Program) -> Result<(), String> {
     println!(
-        "\nNanoseconds, the best of {} rounds in turn, with tables taken in",
-        timing::ROUNDS
+        "\nNanoseconds, the best of {} rounds in turn, of {} for whole inputs, tables taken in",
+        timing::ROUNDS,
+        timing::INPUT_ROUNDS
     );
     for table in &TABLES {
         print(table, random);
     }
     print_readings(random);
+    print_answers(random, program)
 }

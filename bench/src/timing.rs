@@ -1,5 +1,6 @@
 // The times of both sides, taken in turn so that the machine's moods fall on both.
 use crate::contract::Contract;
+use crate::program::Program;
 use crate::question::Question;
 use crate::sheet::{Report, Sheet};
 use crate::{engine, plain};
@@ -8,7 +9,11 @@ use std::time::{Duration, Instant};
 
 pub const ROUNDS: usize = 400;
 
-// What a round asks for many pieces of work, and what it asks for none: all else that a call does, as taking columns in, is in both.
+// The same for whole inputs, of which one takes long.
+pub const INPUT_ROUNDS: usize = 10;
+
+// What a round asks for many pieces of work, and what it asks for none: all else that a call does,
+// as taking columns in, is in both.
 pub struct Work<'a> {
     pub all: Vec<Question<'a>>,
     pub none: Vec<Question<'a>>,
@@ -26,7 +31,8 @@ impl<'a> Work<'a> {
     }
 }
 
-// What one piece of work takes on either side, in nanoseconds: the best of all rounds, in which other programs were least in the way.
+// What one piece of work takes on either side, in nanoseconds: the best of all rounds, in which
+// other programs were least in the way.
 pub struct Times {
     pub engine: f64,
     pub plain: f64,
@@ -51,9 +57,9 @@ fn piece(all: Duration, none: Duration, pieces: usize) -> f64 {
 }
 
 // The best time of each part of a round.
-fn best<const N: usize>(mut round: impl FnMut() -> [Duration; N]) -> [Duration; N] {
+fn best<const N: usize>(rounds: usize, mut round: impl FnMut() -> [Duration; N]) -> [Duration; N] {
     let mut best = [Duration::MAX; N];
-    for _ in 0..ROUNDS {
+    for _ in 0..rounds {
         let times = round();
         best = std::array::from_fn(|k| best[k].min(times[k]));
     }
@@ -63,7 +69,7 @@ fn best<const N: usize>(mut round: impl FnMut() -> [Duration; N]) -> [Duration; 
 pub fn compare(contract: &Contract, work: &Work) -> Times {
     let most = work.all.iter().map(|question| question.places(contract));
     let mut places = vec![0; most.max().unwrap_or(0)];
-    let best = best(|| {
+    let best = best(ROUNDS, || {
         [
             time(engine::answer, contract, &work.all, &mut places),
             time(plain::answer, contract, &work.all, &mut places),
@@ -93,7 +99,7 @@ fn time_reading(reader: Reader, sheet: &Sheet, places: &mut [i64], pieces: usize
 
 pub fn compare_readings(sheet: &Sheet, pieces: usize) -> Times {
     let mut places = vec![0; sheet.factors + sheet.shares];
-    let best = best(|| {
+    let best = best(ROUNDS, || {
         [
             time_reading(engine::read_sheet, sheet, &mut places, pieces),
             time_reading(plain::read_sheet, sheet, &mut places, pieces),
@@ -102,5 +108,29 @@ pub fn compare_readings(sheet: &Sheet, pieces: usize) -> Times {
     Times {
         engine: piece(best[0], Duration::ZERO, pieces),
         plain: piece(best[1], Duration::ZERO, pieces),
+    }
+}
+
+// What an input takes by the program, and by plain Rust.
+fn time_input(program: &Program, input: &[u8]) -> [Duration; 2] {
+    let start = Instant::now();
+    let answer = program.answer(black_box(input));
+    let by_engine = start.elapsed();
+    assert!(black_box(answer).is_ok(), "the program runs");
+    let start = Instant::now();
+    black_box(plain::answer_input(black_box(input)));
+    [by_engine, start.elapsed()]
+}
+
+// An input against an empty one, which starts and ends the program too.
+pub fn compare_answers(program: &Program, input: &[u8]) -> Times {
+    let best = best(INPUT_ROUNDS, || {
+        let [engine, plain] = time_input(program, input);
+        let [engine_none, plain_none] = time_input(program, b"");
+        [engine, plain, engine_none, plain_none]
+    });
+    Times {
+        engine: piece(best[0], best[2], 1),
+        plain: piece(best[1], best[3], 1),
     }
 }

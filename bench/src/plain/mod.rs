@@ -1,13 +1,20 @@
-// The same rules in ordinary Rust, written from docs/RULES.md alone, and for sheets from the specifications of crates/sheet.
+// The same rules in ordinary Rust, written from docs/RULES.md alone, and for sheets from the
+// specifications of crates/sheet.
+mod commands;
+mod desk;
+mod endowment;
+mod kept;
+mod lines;
 mod sheets;
 mod sweeps;
 mod tables;
 
+pub use desk::answer_input;
 pub use sheets::read_sheet;
 
 use crate::contract::{Contract, LIMIT};
 use crate::question::Question;
-use sweeps::Valued;
+use sweeps::{Valued, least_premium};
 use tables::{Basis, Plan, all_within};
 
 // The numbers of the refusals that are not those of tables.
@@ -25,7 +32,7 @@ struct Tables<'a> {
 }
 
 impl Tables<'_> {
-    fn at(&self, premium: i64) -> Valued<'_> {
+    fn at(&self, premium: i64) -> Valued<'_, Plan<'_>> {
         Valued {
             basis: &self.basis,
             plan: &self.plan,
@@ -61,28 +68,16 @@ impl Tables<'_> {
         Ok(())
     }
 
-    // By halving: a higher premium raises no reserve.
-    fn least_premium(&self, state: usize, year: usize, bound: i64) -> i64 {
-        let (mut low, mut high) = (0, LIMIT + 1);
-        while low < high {
-            let middle = (low + high) / 2;
-            if self.at(middle).reserve(state, year) > bound {
-                low = middle + 1;
-            } else {
-                high = middle;
-            }
-        }
-        if low > LIMIT { NO_PREMIUM } else { low }
-    }
-
     fn write_premiums(&self, state: usize, year: usize, bounds: &[i64], premiums: &mut [i64]) {
         for (place, bound) in premiums.iter_mut().zip(bounds) {
-            *place = self.least_premium(state, year, *bound);
+            let premium = least_premium(&self.basis, &self.plan, state, year, *bound);
+            *place = premium.unwrap_or(NO_PREMIUM);
         }
     }
 }
 
-// Refuses a wrong number of places, and then premiums that are out of range. A course tells by itself where it has no room.
+// Refuses a wrong number of places, and then premiums that are out of range. A course tells by
+// itself where it has no room.
 fn check(question: &Question, places: usize) -> Result<(), u8> {
     let (fit_places, premiums) = match question {
         Question::Reserves { premiums, .. } => (places == premiums.len(), *premiums),

@@ -1,127 +1,20 @@
 // Sheets, read line by line.
+use super::lines::{Fault, Line, UNFIT_FORM};
 use crate::contract::{MILLION, MOST_STATES, MOST_YEARS};
 use crate::sheet::Report;
-use std::ops::RangeInclusive;
 
 // The numbers of the refusals.
-const NO_LINE_FEED: u8 = 2;
-const UNFIT_FORM: u8 = 3;
-const UNFIT_NUMBER: u8 = 4;
-const UNFIT_RANGE: u8 = 5;
 const NO_ROOM: u8 = 6;
 const UNFIT_ORDER: u8 = 7;
 const UNFIT_ROW: u8 = 8;
 
-const MOST_BYTES: usize = 40;
-const MOST_DIGITS: usize = 11;
-
-struct Fault {
-    number: u8,
-    line: usize,
-    offset: usize,
-}
-
-// A line without its line feed: which it is, counted from 1, and where it begins.
-#[derive(Clone, Copy)]
-struct Line<'a> {
-    number: usize,
-    offset: usize,
-    bytes: &'a [u8],
-}
-
-// The number of 1 to 11 digits without leading nought.
-fn number(digits: &[u8]) -> Option<i64> {
-    if digits.is_empty()
-        || digits.len() > MOST_DIGITS
-        || (digits.len() > 1 && digits.starts_with(b"0"))
-    {
-        return None;
-    }
-    let mut value = 0;
-    for byte in digits {
-        if !byte.is_ascii_digit() {
-            return None;
-        }
-        value = value * 10 + i64::from(byte - b'0');
-    }
-    Some(value)
-}
-
-impl<'a> Line<'a> {
-    fn first(text: &'a [u8], number: usize, offset: usize) -> Result<Self, Fault> {
-        let rest = &text[offset..];
-        let in_time = &rest[..rest.len().min(MOST_BYTES)];
-        match in_time.iter().position(|byte| *byte == b'\n') {
-            Some(end) => Ok(Line {
-                number,
-                offset,
-                bytes: &rest[..end],
-            }),
-            None => Err(Fault {
-                number: NO_LINE_FEED,
-                line: number,
-                offset,
-            }),
-        }
-    }
-
-    fn fault(self, number: u8) -> Fault {
-        Fault {
-            number,
-            line: self.number,
-            offset: self.offset,
-        }
-    }
-
-    // The fault of a field.
-    fn field_fault(self, number: u8, field: &[u8]) -> Fault {
-        let within = field.as_ptr() as usize - self.bytes.as_ptr() as usize;
-        Fault {
-            offset: self.offset + within,
-            ..self.fault(number)
-        }
-    }
-
-    // All fields after the letter and its semicolon, if there are so many.
-    fn fields<const N: usize>(self) -> Result<[&'a [u8]; N], Fault> {
-        let mut parts = self.bytes[2..].split(|byte| *byte == b';');
-        let mut fields = [&[][..]; N];
-        for field in &mut fields {
-            *field = parts.next().ok_or(self.fault(UNFIT_FORM))?;
-        }
-        match parts.next() {
-            None => Ok(fields),
-            Some(_) => Err(self.fault(UNFIT_FORM)),
-        }
-    }
-
-    fn parsed<const N: usize>(self, fields: [&[u8]; N]) -> Result<[i64; N], Fault> {
-        let mut numbers = [0; N];
-        for (entry, field) in numbers.iter_mut().zip(fields) {
-            *entry = number(field).ok_or_else(|| self.field_fault(UNFIT_NUMBER, field))?;
-        }
-        Ok(numbers)
-    }
-
-    // The numbers of all fields, each in its range.
-    fn numbers<const N: usize>(self, ranges: [RangeInclusive<i64>; N]) -> Result<[i64; N], Fault> {
-        let fields = self.fields()?;
-        let numbers = self.parsed(fields)?;
-        for ((entry, field), range) in numbers.iter().zip(fields).zip(ranges) {
-            if !range.contains(entry) {
-                return Err(self.field_fault(UNFIT_RANGE, field));
-            }
-        }
-        Ok(numbers)
-    }
-}
-
-// What has been read: before its first line, no years. Shares are pushed up to the last that has a line.
-struct Reader {
-    states: usize,
-    years: usize,
-    factors: Vec<i64>,
-    shares: Vec<i64>,
+// What has been read: before its first line, no years. Shares are pushed up to the last that has a
+// line.
+pub struct Reader {
+    pub states: usize,
+    pub years: usize,
+    pub factors: Vec<i64>,
+    pub shares: Vec<i64>,
 }
 
 impl Reader {
@@ -204,7 +97,11 @@ impl Reader {
 }
 
 // What is read of a text, with the line and the offset after it.
-fn read_lines(text: &[u8], factors: usize, shares: usize) -> Result<(Reader, usize, usize), Fault> {
+pub fn read_lines(
+    text: &[u8],
+    factors: usize,
+    shares: usize,
+) -> Result<(Reader, usize, usize), Fault> {
     let mut reader = Reader {
         states: 0,
         years: 0,
@@ -223,7 +120,8 @@ fn read_lines(text: &[u8], factors: usize, shares: usize) -> Result<(Reader, usi
     }
 }
 
-// Reads a sheet into the first places of the columns, and answers 0 or the number of the first refusal, which leaves them as they were.
+// Reads a sheet into the first places of the columns, and answers 0 or the number of the first
+// refusal, which leaves them as they were.
 #[inline(never)]
 pub fn read_sheet(text: &[u8], factors: &mut [i64], shares: &mut [i64], report: &mut Report) -> u8 {
     match read_lines(text, factors.len(), shares.len()) {

@@ -1,21 +1,22 @@
 // Reserves and spans, backwards from the last year.
-use super::tables::{Basis, Plan};
-use crate::contract::{MILLION, MOST_STATES};
+use super::tables::{Basis, Payments};
+use crate::contract::{LIMIT, MILLION, MOST_STATES};
 
-// What is valued: a plan at a premium, on a basis. What the sweep of reserves calls is inlined, at which plain Rust is fastest.
+// What is valued: a plan at a premium, on a basis. What the sweep of reserves calls is inlined, at
+// which plain Rust is fastest.
 #[derive(Clone, Copy)]
-pub struct Valued<'a> {
+pub struct Valued<'a, P> {
     pub basis: &'a Basis<'a>,
-    pub plan: &'a Plan<'a>,
+    pub plan: &'a P,
     pub premium: i64,
 }
 
 // A millionth of an amount, to the nearest whole, halves upwards.
-fn nearest(amount: i64) -> i64 {
+pub fn nearest(amount: i64) -> i64 {
     (amount + MILLION / 2).div_euclid(MILLION)
 }
 
-impl Valued<'_> {
+impl<P: Payments> Valued<'_, P> {
     #[inline(always)]
     fn flow(self, state: usize, year: usize) -> i64 {
         let benefit = self.plan.benefit(state, year);
@@ -35,8 +36,9 @@ impl Valued<'_> {
         flows
     }
 
+    // The mean of what follows a state, where the reserves of the next year are given.
     #[inline(always)]
-    fn mean(self, state: usize, year: usize, row: &[i64], next: &[i64; MOST_STATES]) -> i64 {
+    pub fn mean(self, state: usize, year: usize, row: &[i64], next: &[i64; MOST_STATES]) -> i64 {
         let sum = match self.plan.moves_from(state, year) {
             Some(moves) => row
                 .iter()
@@ -69,11 +71,17 @@ impl Valued<'_> {
         if self.ends(state, year) {
             return self.flow(state, year);
         }
+        self.back_to(year)[state]
+    }
+
+    // The reserves of all states in a year up to the last.
+    #[inline(always)]
+    pub fn back_to(self, year: usize) -> [i64; MOST_STATES] {
         let mut next = self.last_year();
         for year in (year..self.basis.years()).rev() {
             next = self.reserves(year, &next);
         }
-        next[state]
+        next
     }
 
     // Both ends of what follows the moves that have a share.
@@ -123,4 +131,30 @@ impl Valued<'_> {
         }
         next[state]
     }
+}
+
+// The least premium at which the reserve is not above the bound, if one is, by halving: a higher
+// premium raises no reserve.
+pub fn least_premium<P: Payments>(
+    basis: &Basis,
+    plan: &P,
+    state: usize,
+    year: usize,
+    bound: i64,
+) -> Option<i64> {
+    let (mut low, mut high) = (0, LIMIT + 1);
+    while low < high {
+        let premium = (low + high) / 2;
+        let valued = Valued {
+            basis,
+            plan,
+            premium,
+        };
+        if valued.reserve(state, year) > bound {
+            low = premium + 1;
+        } else {
+            high = premium;
+        }
+    }
+    (low <= LIMIT).then_some(low)
 }

@@ -40,6 +40,15 @@ impl<'a> Basis<'a> {
         })
     }
 
+    // A basis that has been read of a sheet.
+    pub fn of_sheet(states: usize, factors: &'a [i64], shares: &'a [i64]) -> Self {
+        Basis {
+            states,
+            factors,
+            shares,
+        }
+    }
+
     pub fn years(&self) -> usize {
         self.factors.len()
     }
@@ -49,9 +58,24 @@ impl<'a> Basis<'a> {
         let size = self.states * self.states;
         self.shares[year * size..][..size].chunks_exact(self.states)
     }
+
+    // The shares of all moves out of a state of the basis in a year.
+    pub fn row(&self, state: usize, year: usize) -> &[i64] {
+        let start = (year * self.states + state) * self.states;
+        &self.shares[start..start + self.states]
+    }
+}
+
+// What a plan pays, and when its premium is due.
+pub trait Payments: Copy {
+    fn benefit(&self, state: usize, year: usize) -> i64;
+    fn due(&self, state: usize, year: usize) -> bool;
+    // What is paid for the moves out of a state in a year, if anything is.
+    fn moves_from(&self, state: usize, year: usize) -> Option<&[i64]>;
 }
 
 // A plan whose columns have been checked.
+#[derive(Clone, Copy)]
 pub struct Plan<'a> {
     years: usize,
     benefits: &'a [i64],
@@ -85,19 +109,20 @@ impl<'a> Plan<'a> {
     fn place(&self, state: usize, year: usize) -> Option<usize> {
         (state < MOST_STATES && year <= self.years).then_some(year * MOST_STATES + state)
     }
+}
 
-    pub fn benefit(&self, state: usize, year: usize) -> i64 {
+impl Payments for Plan<'_> {
+    fn benefit(&self, state: usize, year: usize) -> i64 {
         self.place(state, year)
             .map_or(0, |place| self.benefits[place])
     }
 
-    pub fn due(&self, state: usize, year: usize) -> bool {
+    fn due(&self, state: usize, year: usize) -> bool {
         self.place(state, year)
             .is_some_and(|place| self.marks[place] == 1)
     }
 
-    // What is paid for the moves out of a state in a year, if anything is.
-    pub fn moves_from(&self, state: usize, year: usize) -> Option<&[i64]> {
+    fn moves_from(&self, state: usize, year: usize) -> Option<&[i64]> {
         (year < self.years).then(|| {
             let start = (year * MOST_STATES + state) * MOST_STATES;
             &self.moves[start..start + MOST_STATES]
