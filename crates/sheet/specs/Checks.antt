@@ -1,5 +1,5 @@
 -- The rules of a line of a sheet, in the order in which they are checked. Assumes nothing.
-use Rattle.std.specs.Prelude.{ℕ, ◌+◌, ◌-◌, ◌*◌, Bool, true, false, cond, ◌&&◌, List, [], ◌∷◌, ◌++◌, map, length, take, replicate, Option, Some, None, ◌==◌, nat_lt, nat_le, slice_index, sum_by}
+use Rattle.std.specs.Prelude.{ℕ, zero, suc, ◌+◌, ◌-◌, ◌*◌, ◌/◌, ◌%◌, Bool, true, false, cond, ◌&&◌, ◌||◌, List, [], ◌∷◌, ◌++◌, map, length, take, replicate, Option, Some, None, ◌==◌, nat_lt, nat_le, slice_index, sum_by}
 use Rattle.std.specs.List.{range_with_len, list_all, list_any}
 use Rattle.std.specs.Str.Parse.{digits_value}
 use Rattle.units.specs.Faults.{text_fault}
@@ -59,6 +59,25 @@ row_total s t i = sum_by (λ j. share_so_far s i j t) (range_with_len 0 s.states
 abbrev pub full_rows : Sheet → Bool
 full_rows s = cond (length s.factors == 0) true (list_all (λ i. row_total s (length s.factors - 1) i == million) (range_with_len 0 s.states))
 
+-- the pair (i, j) comes after the one before, by i and then by j; and after none it may be any
+abbrev pub comes_after : Option (ℕ × ℕ) → ℕ × ℕ → Bool
+comes_after None pair = true
+comes_after (Some before) pair =
+    nat_lt before.0 pair.0 || (before.0 == pair.0 && nat_lt before.1 pair.1)
+
+-- the pair of the last of so many shares of a year, which stand by i and then by j
+abbrev pub last_of : ℕ → ℕ → Option (ℕ × ℕ)
+last_of m zero = None
+last_of m (suc k) = Some (k / m, k % m)
+
+-- how many shares of the last year that has come there are: they end with that of the line before
+abbrev pub shares_of_year : Sheet → ℕ
+shares_of_year s = length s.shares - (length s.factors - 1) * s.states * s.states
+
+-- the pair of the `T` line before in that year, if there is one
+abbrev pub last_pair : Sheet → Option (ℕ × ℕ)
+last_pair s = last_of s.states (shares_of_year s)
+
 -- noughts for the shares that have no line, up to a place
 abbrev pub padded : List ℕ → ℕ → List ℕ
 padded shares to = shares ++ replicate (to - length shares) 0
@@ -94,8 +113,16 @@ abbrev pub move_line : Sheet → Spot → Kind
 move_line s spot = record {
   may_stand = nat_lt 0 (length s.factors);
   ranges = range 0 (s.years - 1) ∷ range 0 (s.states - 1) ∷ range 0 (s.states - 1) ∷ range 1 million ∷ [];
-  rules = λ ns. check 7 Whole spot (slice_index ns 0 + 1 == length s.factors && nat_le (length s.shares) (place s.states (slice_index ns 1) (slice_index ns 2) (slice_index ns 0))) ∷ [];
-  makes = λ ns. record { states = s.states; years = s.years; factors = s.factors; shares = padded s.shares (place s.states (slice_index ns 1) (slice_index ns 2) (slice_index ns 0)) ++ slice_index ns 3 ∷ [] };
+  rules = λ ns. check 7 Whole spot (slice_index ns 0 + 1 == length s.factors
+      && comes_after (last_pair s) (slice_index ns 1, slice_index ns 2)) ∷ [];
+  makes = λ ns. record {
+    states = s.states;
+    years = s.years;
+    factors = s.factors;
+    shares =
+        padded s.shares (place s.states (slice_index ns 1) (slice_index ns 2) (slice_index ns 0))
+        ++ slice_index ns 3 ∷ [];
+  };
 }
 
 -- `E`
