@@ -53,7 +53,7 @@ ranges_are spot (f ∷ fs) (r ∷ rs) count h =
 
 -- ---- the parts of a line
 
-join_is : (head : List ℕ) (fs : List (List ℕ)) → join_with_byte 59 (head ∷ fs) ≡ head ++ flat_map (λ f. 59 ∷ f) fs
+pub join_is : (head : List ℕ) (fs : List (List ℕ)) → join_with_byte 59 (head ∷ fs) ≡ head ++ flat_map (λ f. 59 ∷ f) fs
 join_is head [] = sym (append-nil head)
 join_is head (f ∷ fs) = ap (λ bytes. head ++ (59 ∷ bytes)) (join_is f fs)
 

@@ -3,7 +3,7 @@ use Rattle.std.proofs.lemmas.Bool.Decides.{nat_tests}
 use Rattle.std.proofs.lemmas.List.{length-take-le, get_or-set_other}
 use Rattle.std.specs.Str.Parse.{digits_value}
 use Rattle.basis.specs.TransitionColumns.{place}
-use Rattle.sheet.proofs.Held.{put_held, places_fit}
+use Rattle.sheet.proofs.Held.{put_held, more_held, places_fit}
 use Rattle.sheet.proofs.Joins.{place_in_year}
 use Rattle.sheet.proofs.Pairs.{after_shares}
 use Rattle.sheet.specs.Checks.{padded}
@@ -59,4 +59,4 @@ returns c =
     let inside : place r.states i j t < r.years * r.states * r.states = place_in_year r.states i j t r.years (grind arith) (grind arith) (grind arith) in
     let shares : take (place r.states i j t + 1) (set r.shares (place r.states i j t) p) ≡ padded (take r.next r.shares) (place r.states i j t) ++ p ∷ [] = put_held r.shares r.next (place r.states i j t) p rising (grind arith) r.noughts in
     let after = after_shares (held r) i j t (this_year ∙ sym come) (grind arith) in
-    (grind (arith, nat_tests), cc)
+    (grind (arith, nat_tests), more_held r _ i j t p _ _ _ _ shares from to year share)
