@@ -62,7 +62,8 @@ pub rows_full : (r : Reader) → length r.factors ≡ 120 → 0 < r.come → ((i
 rows_full r years some whole =
     full_is r years some ∙ all_to (λ i. row_total (held r) (r.come - 1) i == million) 0 r.states (λ i _ h. let e = whole i (omega arith) in grind (arith, nat_tests))
 
--- the shares up to a place are those that are held, with noughts after them; and one more share is put at its place
+-- the shares up to a place are those that are held, with noughts after them; and one more share is
+-- put at its place
 pub take_padded : (xs : List ℕ) (next to : ℕ) → next ≤ to → to ≤ length xs → ((k : ℕ) → next ≤ k → get_or xs k 0 ≡ 0) → take to xs ≡ padded (take next xs) to
 take_padded xs next to low high noughts =
     let long : length (take to xs) ≡ to = length-take-le to xs high in

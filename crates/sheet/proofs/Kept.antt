@@ -1,4 +1,5 @@
--- A line that breaks no rule is a letter and numbers that keep the rules of their kind. Assumes nothing.
+-- A line that breaks no rule is a letter and numbers that keep the rules of their kind. Assumes
+-- nothing.
 use Rattle.std.proofs.Common.{◌≡◌, ℕ, ◌+◌, ◌<◌, ◌≤◌, Bool, true, false, cond, ◌&&◌, inl, inr, List, [], ◌∷◌, ◌++◌, map, length, take, get_or, Option, Some, None, ◌==◌, decimal, flat_map, count_by, eqb-true, refl, sym, ap, ap₂, ◌∙◌, append-nil, append_assoc, length-append, get_or-take, length-take, arith}
 use Rattle.std.specs.List.{All, join_with_byte, position_or_len}
 use Rattle.std.specs.Str.Parse.{digits_value}

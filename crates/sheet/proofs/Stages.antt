@@ -1,4 +1,5 @@
--- A line that keeps the rules leads from a sheet so far to the next, and `E` to a whole sheet. Assumes nothing.
+-- A line that keeps the rules leads from a sheet so far to the next, and `E` to a whole one.
+-- Assumes nothing.
 use Rattle.std.proofs.Common.{◌≡◌, ℕ, ◌+◌, ◌*◌, ◌<◌, ◌≤◌, ◌⊎◌, inl, inr, Bool, true, false, List, [], ◌∷◌, ◌++◌, length, None, ◌==◌, eqb-true, refl, sym, ap, ◌∙◌, subst, arith}
 use Rattle.std.proofs.lemmas.Bool.Decides.{nat_tests, eqb_tells}
 use Rattle.basis.specs.TransitionColumns.{place}

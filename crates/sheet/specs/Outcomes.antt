@@ -35,7 +35,7 @@ ReadsSigned part (Err fault) =
     ((z : ℤ) → WritesSigned (bytes_of part) z → ⊥)
     × (fault ≡ text_fault 4 Field part.spot.line part.spot.offset)
 
--- the number of a field lies from the low to the high one; or it does not, and 5 is told of the field
+-- the number of a field lies from the low to the high one; or it does not, and 5 is told of that
 abbrev pub IsWithin : Part → ℕ → ℕ → ℕ → Result ℕ Fault → Type 0
 IsWithin part number low high (Ok n) = (n ≡ number) × (low ≤ n) × (n ≤ high)
 IsWithin part number low high (Err fault) =

@@ -12,7 +12,12 @@ use Rattle.sheet.specs.declared.reader.Reader.{Reader}
 use Rattle.sheet.specs.declared.spot.Spot.{Spot}
 
 abbrev pub held : Reader → Sheet
-held r = record { states = r.states; years = r.years; factors = take r.come r.factors; shares = take r.next r.shares }
+held r = record {
+  states = r.states;
+  years = r.years;
+  factors = take r.come r.factors;
+  shares = take r.next r.shares;
+}
 
 -- every row of the last year is full; or one is not, and 8 is told of the line
 abbrev pub KeepsRows : Sheet → Spot → Result Unit Fault → Type 0

@@ -39,7 +39,7 @@ pub record IsRead (bytes : List ℕ) (factors shares factors_after shares_after 
   pub factors_filled : factors_after ≡ filled s.factors factors
   pub shares_filled : shares_after ≡ filled s.shares shares
 
--- a sheet is read into the columns, or the bytes are refused as one and the columns are as they were
+-- a sheet is read into the columns, or the bytes are refused as one and the columns stay
 abbrev pub ReadsSheet : List ℕ → List ℤ → List ℤ → List ℤ → List ℤ → Result Reading Fault → Type 0
 ReadsSheet bytes factors shares factors_after shares_after (Ok reading) =
     (s : Sheet) × IsRead bytes factors shares factors_after shares_after reading s

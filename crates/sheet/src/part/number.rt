@@ -40,7 +40,8 @@ fn unsigned(bytes: &[u8]) -> Option<u64>
 // The number of 1 to 11 digits without leading nought, which a minus may stand before if it is not
 // nought.
 fn signed(bytes: &[u8]) -> Option<i64>
-    ensures { MatchOption result ((z : ℤ) → WritesSigned bytes.now z → ⊥) (λ z. WritesSigned bytes.now z) }
+    ensures { MatchOption result ((z : ℤ) → WritesSigned bytes.now z → ⊥) (λ z.
+        WritesSigned bytes.now z) }
 {
     match bytes {
         [b'-', digits @ ..] => match unsigned(digits)? {

@@ -16,8 +16,8 @@ use basis::table::TransitionTable;
 use units::fault::Fault;
 use units::{MOST_STATES, MOST_YEARS};
 
-// Reads the sheet at the head of the input into a table, and gives what stands after it. It wants no
-// memory. What is refused is refused in reading: a table takes in every sheet that is read.
+// Reads the sheet at the head of the input into a table, and gives what stands after it. It wants
+// no memory. What is refused is refused in reading: a table takes in every sheet that is read.
 pub fn read_into<'a>(table: &mut TransitionTable, bytes: &'a [u8]) -> Result<Part<'a>, Fault>
     ensures answer { ReadsInto bytes.now table.old table.new result }
     ensures every_sheet { (s : Sheet) (rest : List ℕ) → IsSheet most bytes.now s rest →

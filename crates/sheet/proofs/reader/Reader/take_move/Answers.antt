@@ -17,8 +17,8 @@ returns-then-place-self c =
     let t = c.in_ok-t-2.t in
     let i = c.in_ok-i-2.i in
     let j = c.in_ok-j-2.j in
-    let this_year : t + 1 ≡ r.come = c.if-t-self.false in
-    let early : place r.states i j t < r.next = c.if-place-self.true in
+    let this_year : t + 1 ≡ r.come = omega (arith, c.if-t-self.false) in
+    let early : place r.states i j t < r.next = omega (arith, c.if-place-self.true) in
     let come : length (take r.come r.factors) ≡ r.come = length-take-le r.come r.factors (grind arith) in
     let next : length (take r.next r.shares) ≡ r.next = length-take-le r.next r.shares (grind arith) in
     let year : t ≡ digits_value 10 (bytes_of c.args.year) = grind arith in
@@ -36,7 +36,7 @@ invariant_of-self-clause-places c =
 pub invariant_of-self-clause-noughts : goal.invariant_of-self-clause-noughts
 invariant_of-self-clause-noughts c = λ k above.
     let r = c.args.self.now in
-    let next : r.next ≤ place r.states c.in_ok-i-2.i c.in_ok-j-2.j c.in_ok-t-2.t = c.if-place-self.false in
+    let next : r.next ≤ place r.states c.in_ok-i-2.i c.in_ok-j-2.j c.in_ok-t-2.t = omega (arith, c.if-place-self.false) in
     get_or-set_other r.shares (place r.states c.in_ok-i-2.i c.in_ok-j-2.j c.in_ok-t-2.t) k c.in_ok-p-2.p 0 (λ e. omega arith) ∙ r.noughts k (omega arith)
 
 pub returns : goal.returns
@@ -47,8 +47,8 @@ returns c =
     let j = c.in_ok-j-2.j in
     let p = c.in_ok-p-2.p in
     let fit = places_fit r.states r.years r.most_states r.most_years in
-    let this_year : t + 1 ≡ r.come = c.if-t-self.false in
-    let rising : r.next ≤ place r.states i j t = c.if-place-self.false in
+    let this_year : t + 1 ≡ r.come = omega (arith, c.if-t-self.false) in
+    let rising : r.next ≤ place r.states i j t = omega (arith, c.if-place-self.false) in
     let some : 1 ≤ p = grind arith in
     let come : length (take r.come r.factors) ≡ r.come = length-take-le r.come r.factors (grind arith) in
     let next : length (take r.next r.shares) ≡ r.next = length-take-le r.next r.shares (grind arith) in
