@@ -10,6 +10,7 @@ use Rattle.basis.specs.TransitionColumns as columns
 use Rattle.basis.specs.TransitionColumns.{row_number}
 use Rattle.sheet.specs.Checks.{row_total, full_rows, padded}
 use Rattle.sheet.specs.Readers.{held}
+use Rattle.sheet.specs.Sheets.{Sheet}
 use Rattle.sheet.specs.declared.reader.Reader.{Reader}
 use Rattle.sheet.proofs.Joins.{all_to, length_padded, get_or_padded}
 use Rattle.sheet.proofs.Rows.{row_ends}
@@ -61,7 +62,8 @@ pub rows_full : (r : Reader) → length r.factors ≡ 120 → 0 < r.come → ((i
 rows_full r years some whole =
     full_is r years some ∙ all_to (λ i. row_total (held r) (r.come - 1) i == million) 0 r.states (λ i _ h. let e = whole i (omega arith) in grind (arith, nat_tests))
 
--- the shares up to a place are those that are held, with noughts after them; and one more share is put at its place
+-- the shares up to a place are those that are held, with noughts after them; and one more share is
+-- put at its place
 pub take_padded : (xs : List ℕ) (next to : ℕ) → next ≤ to → to ≤ length xs → ((k : ℕ) → next ≤ k → get_or xs k 0 ≡ 0) → take to xs ≡ padded (take next xs) to
 take_padded xs next to low high noughts =
     let long : length (take to xs) ≡ to = length-take-le to xs high in
@@ -71,3 +73,12 @@ take_padded xs next to low high noughts =
 pub put_held : (xs : List ℕ) (next place p : ℕ) → next ≤ place → place < length xs → ((k : ℕ) → next ≤ k → get_or xs k 0 ≡ 0) → take (place + 1) (set xs place p) ≡ padded (take next xs) place ++ p ∷ []
 put_held xs next place p low high noughts =
     take_more_set xs place p high ∙ ap (λ ys. ys ++ p ∷ []) (take_padded xs next place low (omega arith) noughts)
+
+-- what is held with one share more, by equal numbers
+abbrev pub with_shares : Reader → List ℕ → Sheet
+with_shares r xs = record { states = r.states; years = r.years; factors = take r.come r.factors; shares = xs }
+
+pub more_held : (r : Reader) (xs : List ℕ) (i j t p a b u q : ℕ) → xs ≡ padded (take r.next r.shares) (columns.place r.states i j t) ++ p ∷ [] → i ≡ a → j ≡ b → t ≡ u → p ≡ q → with_shares r xs ≡ with_shares r (padded (take r.next r.shares) (columns.place r.states a b u) ++ q ∷ [])
+more_held r xs i j t p a b u q is from to year share =
+    let place : columns.place r.states i j t ≡ columns.place r.states a b u = rw (from, to, year) refl in
+    ap (with_shares r) (is ∙ ap (λ k. padded (take r.next r.shares) k ++ p ∷ []) place ∙ ap (λ x. padded (take r.next r.shares) (columns.place r.states a b u) ++ x ∷ []) share)

@@ -1,4 +1,5 @@
--- A line that breaks no rule is a letter and numbers that keep the rules of their kind. Assumes nothing.
+-- A line that breaks no rule is a letter and numbers that keep the rules of their kind. Assumes
+-- nothing.
 use Rattle.std.proofs.Common.{◌≡◌, ℕ, ◌+◌, ◌<◌, ◌≤◌, Bool, true, false, cond, ◌&&◌, inl, inr, List, [], ◌∷◌, ◌++◌, map, length, take, get_or, Option, Some, None, ◌==◌, decimal, flat_map, count_by, eqb-true, refl, sym, ap, ap₂, ◌∙◌, append-nil, append_assoc, length-append, get_or-take, length-take, arith}
 use Rattle.std.specs.List.{All, join_with_byte, position_or_len}
 use Rattle.std.specs.Str.Parse.{digits_value}
@@ -53,7 +54,7 @@ ranges_are spot (f ∷ fs) (r ∷ rs) count h =
 
 -- ---- the parts of a line
 
-join_is : (head : List ℕ) (fs : List (List ℕ)) → join_with_byte 59 (head ∷ fs) ≡ head ++ flat_map (λ f. 59 ∷ f) fs
+pub join_is : (head : List ℕ) (fs : List (List ℕ)) → join_with_byte 59 (head ∷ fs) ≡ head ++ flat_map (λ f. 59 ∷ f) fs
 join_is head [] = sym (append-nil head)
 join_is head (f ∷ fs) = ap (λ bytes. head ++ (59 ∷ bytes)) (join_is f fs)
 

@@ -1,12 +1,13 @@
 -- The moves of a year are read on. Assumes nothing.
-use Rattle.std.proofs.Common.{◌≡◌, ℕ, ◌+◌, ◌*◌, ◌<◌, ◌≤◌, inl, inr, true, List, [], ◌∷◌, ◌++◌, length, get_or, take, ◌==◌, ◌&&◌, nat_le, refl, ap, subst, add-mul, arith}
+use Rattle.std.proofs.Common.{◌≡◌, ℕ, ◌+◌, ◌*◌, ◌<◌, ◌≤◌, inl, inr, true, List, [], ◌∷◌, ◌++◌, length, get_or, take, ◌==◌, ◌&&◌, refl, sym, ap, subst, add-mul, arith}
 use Rattle.std.proofs.lemmas.Bool.Decides.{nat_tests, eqb_tells}
 use Rattle.basis.specs.TransitionColumns.{place}
-use Rattle.sheet.specs.Checks.{kind, padded}
+use Rattle.sheet.specs.Checks.{kind, padded, comes_after, last_pair}
 use Rattle.sheet.specs.declared.columns.Columns.{Columns}
 use Rattle.sheet.specs.Sheets.{Sheet, basis_of}
 use Rattle.sheet.specs.Texts.{move_text, row_text, moves_text}
 use Rattle.sheet.specs.declared.spot.Spot.{Spot}
+use Rattle.sheet.proofs.Pairs.{after_shares}
 use Rattle.sheet.proofs.Unbroken.{Keeps}
 use Rattle.sheet.proofs.Walks.{walk_none, walk_line}
 use Rattle.sheet.proofs.Onward.{Readable, at, Agrees, On, agrees_skip, agrees_more, on_count, years_at}
@@ -22,7 +23,8 @@ move_keeps columns b i j t xs spot readable h k l low some =
     let came = readable.years_come in
     let most = readable.range (place b.states i j t) in
     let years = years_at b (t + 1) (omega arith) in
-    let order : (t + 1 == length (take (t + 1) b.factors) && nat_le (length xs) (place b.states i j t)) ≡ true = grind (arith, nat_tests) in
+    let after = after_shares (at b (t + 1) xs) i j t (sym years) k in
+    let order : (t + 1 == length (take (t + 1) b.factors) && comes_after (last_pair (at b (t + 1) xs)) (i, j)) ≡ true = grind (arith, nat_tests) in
     record {
       kept = record { stands = grind (arith, nat_tests); ranges = ((omega arith, omega arith), ((omega arith, omega arith), ((omega arith, omega arith), ((some, most), tt)))); rules = rw order refl };
       most = omega arith;

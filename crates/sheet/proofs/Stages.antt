@@ -1,4 +1,5 @@
--- A line that keeps the rules leads from a sheet so far to the next, and `E` to a whole sheet. Assumes nothing.
+-- A line that keeps the rules leads from a sheet so far to the next, and `E` to a whole one.
+-- Assumes nothing.
 use Rattle.std.proofs.Common.{◌≡◌, ℕ, ◌+◌, ◌*◌, ◌<◌, ◌≤◌, ◌⊎◌, inl, inr, Bool, true, false, List, [], ◌∷◌, ◌++◌, length, None, ◌==◌, eqb-true, refl, sym, ap, ◌∙◌, subst, arith}
 use Rattle.std.proofs.lemmas.Bool.Decides.{nat_tests, eqb_tells}
 use Rattle.basis.specs.TransitionColumns.{place}
@@ -11,6 +12,7 @@ use Rattle.sheet.specs.declared.spot.Spot.{Spot}
 use Rattle.sheet.proofs.Added.{basis_adds, year_adds, move_adds, end_adds}
 use Rattle.sheet.proofs.Begun.{basis_begins, year_begins, move_begins, end_lawful}
 use Rattle.sheet.proofs.Kept.{first_none}
+use Rattle.sheet.proofs.Pairs.{after_shares}
 use Rattle.sheet.proofs.Unbroken.{KeepsKind}
 
 -- the bytes are the text of a lawful basis, for which the columns suffice
@@ -57,9 +59,10 @@ move_follows columns s spot before (t ∷ (i ∷ (j ∷ (p ∷ [])))) (inr says)
     let two = begun.least_states in
     let order = (first_none _ _ None keeps.rules).0 in
     let last : t + 1 ≡ length s.factors = grind (arith, nat_tests) in
-    let short : length s.shares ≤ place s.states i j t = grind (arith, nat_tests) in
     let within : i < s.states = omega (arith, keeps.ranges.1.0) in
     let inside : j < s.states = omega (arith, keeps.ranges.1.1.0) in
+    let after = after_shares s i j t last inside in
+    let short : length s.shares ≤ place s.states i j t = grind (arith, nat_tests) in
     let in_p = keeps.ranges.1.1.1.0 in
     inr (move_begins columns s t i j p begun last within inside in_p.0 in_p.1 short, ap (λ bytes. bytes ++ line_text 84 (t ∷ i ∷ j ∷ p ∷ [])) says.1 ∙ sym (move_adds s.states s.years s.factors s.shares t i j p last within inside in_p.0 short))
 

@@ -4,6 +4,7 @@ pub mod Fields
 pub mod FirstLines
 pub mod Lines
 pub mod Numerals
+pub mod Outcomes
 pub mod Readers
 pub mod Reading
 pub mod Readings

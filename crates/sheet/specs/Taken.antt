@@ -15,7 +15,8 @@ abbrev pub most : Columns
 most = record { factors = 120; shares = 7680 }
 
 -- the bytes are a sheet and the rest, and the table is its basis
-pub record IsTaken (bytes : List ℕ) (table : TransitionTable) (rest : Part) (s : Sheet) : Type 0 where
+pub record IsTaken (bytes : List ℕ) (table : TransitionTable) (rest : Part) (s : Sheet)
+    : Type 0 where
   pub sheet : IsSheet most bytes s (bytes_of rest)
   pub basis : transition_table table ≡ basis_of s
   pub spot : rest.spot ≡ spot_past (text_of (basis_of s))

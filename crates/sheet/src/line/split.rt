@@ -1,9 +1,8 @@
 // Lines from their bytes.
-ghost use Rattle.std.specs.Prelude.{◌≡◌, false, length, map, MatchResult, MatchOption, IfSome};
-ghost use Rattle.units.specs.Faults.{text_fault};
-ghost use Rattle.units.specs.declared.fault.Layer.TheVariants.{Sheet};
-ghost use Rattle.sheet.specs.Fields.{bytes_of, parts_left, StandFrom};
+ghost use Rattle.std.specs.Prelude.{◌≡◌, ℕ, false, List, length, map, MatchOption, IfSome, IfOk};
+ghost use Rattle.sheet.specs.Fields.{bytes_of, parts_left, StandFrom, StandsIn, AllStandIn};
 ghost use Rattle.sheet.specs.Lines.{parts, has_fields, has_form};
+ghost use Rattle.sheet.specs.Outcomes.{SplitsLine};
 ghost use Rattle.sheet.specs.SplitLines.{letter, fields, IsLine};
 
 use super::Line;
@@ -13,7 +12,10 @@ use units::rule::Rule;
 
 // The line of a letter and the fields that stand in the rest of it.
 fn with_fields<'a>(byte: u8, rest: Option<Part<'a>>) -> Option<Line<'a>>
-    ensures { MatchOption result (has_fields byte (length (parts_left rest.entry)) ≡ false) (λ line. (letter line ≡ byte) × (parts_left rest.entry ≡ map bytes_of (fields line)) × IfSome rest.entry (λ part. StandFrom part.spot (fields line))) }
+    ensures { MatchOption result (has_fields byte (length (parts_left rest.entry)) ≡ false) (λ line.
+        (letter line ≡ byte)
+        × (parts_left rest.entry ≡ map bytes_of (fields line))
+        × IfSome rest.entry (λ part. StandFrom part.spot (fields line))) }
 {
     match char::from(byte) {
         'B' => {
@@ -62,7 +64,8 @@ fn with_fields<'a>(byte: u8, rest: Option<Part<'a>>) -> Option<Line<'a>>
 
 // The line that a part of the input is, if it is one letter with as many fields as that has.
 fn line_of<'a>(whole: Part<'a>) -> Option<Line<'a>>
-    ensures { MatchOption result (has_form (parts (bytes_of whole.entry)) ≡ false) (λ line. IsLine whole.entry line) }
+    ensures { MatchOption result (has_form (parts (bytes_of whole.entry)) ≡ false) (λ line.
+        IsLine whole.entry line) }
 {
     let (head, rest) = whole.cut();
     match head.bytes {
@@ -74,7 +77,9 @@ fn line_of<'a>(whole: Part<'a>) -> Option<Line<'a>>
 impl<'a> Line<'a> {
     // The line that a part of the input is, or the breach of the rule on letters and fields.
     pub fn split(whole: Part<'a>) -> Result<Line<'a>, Fault>
-        ensures { MatchResult result (λ line. IsLine whole.entry line) (λ fault. (has_form (parts (bytes_of whole.entry)) ≡ false) × (fault ≡ text_fault 3 Sheet whole.entry.spot.line whole.entry.spot.offset)) }
+        ensures answer { SplitsLine whole.entry result }
+        ensures own_bytes { (input : List ℕ) → StandsIn input whole.entry →
+            IfOk result (λ line. AllStandIn input (fields line)) }
     {
         line_of(whole).ok_or(whole.spot.fault(Rule::Form))
     }

@@ -1,7 +1,7 @@
 // Parts of a line, which stand between semicolons.
-ghost use Rattle.std.specs.Prelude.{◌≡◌, ◌+◌, ◌≢◌, [], ◌∷◌, length, map, MatchOption, IfSome};
+ghost use Rattle.std.specs.Prelude.{◌≡◌, ◌+◌, ◌≢◌, [], ◌∷◌, length, MatchOption, IfSome};
 ghost use Rattle.sheet.specs.Lines.{parts, further};
-ghost use Rattle.sheet.specs.Fields.{bytes_of, parts_left, StandFrom};
+ghost use Rattle.sheet.specs.Fields.{bytes_of, parts_left, AreFields};
 
 use super::Part;
 use crate::search::first_place;
@@ -12,7 +12,8 @@ impl<'a> Part<'a> {
     pub(crate) fn cut(self) -> (Part<'a>, Option<Part<'a>>)
         ensures parts { parts (bytes_of self.entry) ≡ bytes_of result.0 ∷ parts_left result.1 }
         ensures first { result.0.spot ≡ self.entry.spot }
-        ensures rest { IfSome result.1 (λ rest. rest.spot ≡ further self.entry.spot (length (bytes_of result.0) + 1)) }
+        ensures rest { IfSome result.1 (λ rest.
+            rest.spot ≡ further self.entry.spot (length (bytes_of result.0) + 1)) }
     {
         let Spot { line, offset } = self.spot;
         match first_place(self.bytes, b';') {
@@ -37,7 +38,8 @@ impl<'a> Part<'a> {
 
     // All fields, if there are two.
     pub(crate) fn two(self) -> Option<(Part<'a>, Part<'a>)>
-        ensures { MatchOption result (length (parts (bytes_of self.entry)) ≢ 2) (λ fields. (parts (bytes_of self.entry) ≡ bytes_of fields.0 ∷ bytes_of fields.1 ∷ []) × StandFrom self.entry.spot (fields.0 ∷ fields.1 ∷ [])) }
+        ensures { MatchOption result (length (parts (bytes_of self.entry)) ≢ 2) (λ fields.
+            AreFields self.entry (fields.0 ∷ fields.1 ∷ [])) }
     {
         let (first, rest) = self.cut();
         let (second, rest) = rest?.cut();
@@ -49,7 +51,8 @@ impl<'a> Part<'a> {
 
     // All fields, if there are three.
     pub(crate) fn three(self) -> Option<(Part<'a>, Part<'a>, Part<'a>)>
-        ensures { MatchOption result (length (parts (bytes_of self.entry)) ≢ 3) (λ fields. (parts (bytes_of self.entry) ≡ bytes_of fields.0 ∷ bytes_of fields.1 ∷ bytes_of fields.2 ∷ []) × StandFrom self.entry.spot (fields.0 ∷ fields.1 ∷ fields.2 ∷ [])) }
+        ensures { MatchOption result (length (parts (bytes_of self.entry)) ≢ 3) (λ fields.
+            AreFields self.entry (fields.0 ∷ fields.1 ∷ fields.2 ∷ [])) }
     {
         let (first, rest) = self.cut();
         let (second, third) = rest?.two()?;
@@ -58,7 +61,8 @@ impl<'a> Part<'a> {
 
     // All fields, if there are four.
     pub(crate) fn four(self) -> Option<(Part<'a>, Part<'a>, Part<'a>, Part<'a>)>
-        ensures { MatchOption result (length (parts (bytes_of self.entry)) ≢ 4) (λ fields. (parts (bytes_of self.entry) ≡ bytes_of fields.0 ∷ bytes_of fields.1 ∷ bytes_of fields.2 ∷ bytes_of fields.3 ∷ []) × StandFrom self.entry.spot (fields.0 ∷ fields.1 ∷ fields.2 ∷ fields.3 ∷ [])) }
+        ensures { MatchOption result (length (parts (bytes_of self.entry)) ≢ 4) (λ fields.
+            AreFields self.entry (fields.0 ∷ fields.1 ∷ fields.2 ∷ fields.3 ∷ [])) }
     {
         let (first, rest) = self.cut();
         let (second, third, fourth) = rest?.three()?;

@@ -1,11 +1,8 @@
 // The lines of the input.
-ghost use Rattle.std.specs.Prelude.{◌≡◌, false, MatchResult};
-ghost use Rattle.units.specs.Faults.{text_fault};
-ghost use Rattle.units.specs.declared.fault.Layer.TheVariants.{Sheet};
-ghost use Rattle.sheet.specs.Checks.{ends_in_time};
-ghost use Rattle.sheet.specs.Fields.{bytes_of};
-ghost use Rattle.sheet.specs.FirstLines.{IsFirstLine};
+ghost use Rattle.std.specs.Prelude.{◌≡◌, ℕ, List, IfOk};
+ghost use Rattle.sheet.specs.Fields.{bytes_of, StandsIn};
 ghost use Rattle.sheet.specs.Lines.{start};
+ghost use Rattle.sheet.specs.Outcomes.{CutsLine};
 
 use super::Part;
 use crate::search::first_place;
@@ -21,6 +18,7 @@ impl<'a> Part<'a> {
     pub fn new(bytes: &'a [u8]) -> Part<'a>
         ensures bytes { bytes_of result ≡ bytes.now }
         ensures spot { result.spot ≡ start }
+        ensures own_bytes { StandsIn bytes.now result }
     {
         let spot = Spot { line: 1, offset: 0 };
         Part { bytes, spot }
@@ -40,7 +38,9 @@ impl<'a> Part<'a> {
 
     // The first line without its line feed, and what stands after that.
     pub fn first_line(self) -> Result<(Part<'a>, Part<'a>), Fault>
-        ensures { MatchResult result (λ parts. IsFirstLine self.entry parts.0 parts.1) (λ fault. (ends_in_time (bytes_of self.entry) ≡ false) × (fault ≡ text_fault 2 Sheet self.entry.spot.line self.entry.spot.offset)) }
+        ensures answer { CutsLine self.entry result }
+        ensures own_bytes { (input : List ℕ) → StandsIn input self.entry →
+            IfOk result (λ parts. StandsIn input parts.0 × StandsIn input parts.1) }
     {
         let bytes = self.bytes;
         let in_time = &bytes[..bytes.len().min(MOST_BYTES)];

@@ -1,11 +1,8 @@
 // The numbers that parts write.
-ghost use Rattle.std.specs.Prelude.{◌≡◌, ◌≤◌, ℕ, ℤ, length, MatchResult, MatchOption, false, true};
-ghost use Rattle.std.specs.Str.{all_ascii_digits};
+ghost use Rattle.std.specs.Prelude.{◌≡◌, ◌≤◌, ℕ, ℤ, length, MatchOption};
 ghost use Rattle.std.specs.Str.Parse.{AllDigits, digits_value};
-ghost use Rattle.units.specs.Faults.{text_fault};
-ghost use Rattle.units.specs.declared.fault.Layer.TheVariants.{Field};
-ghost use Rattle.sheet.specs.Checks.{range, in_range};
-ghost use Rattle.sheet.specs.Numerals.{is_number, Writes, WritesSigned};
+ghost use Rattle.sheet.specs.Numerals.{Writes, WritesSigned};
+ghost use Rattle.sheet.specs.Outcomes.{IsNumberByRule, ReadsNumber, ReadsSigned, IsWithin};
 
 use super::Part;
 use units::fault::Fault;
@@ -14,7 +11,8 @@ use units::rule::Rule;
 // What digits come to.
 fn digits(bytes: &[u8]) -> Option<u64>
     requires { length bytes.now ≤ 11 }
-    ensures { MatchOption result (AllDigits 10 bytes.now → ⊥) (λ n. AllDigits 10 bytes.now × (n ≡ digits_value 10 bytes.now)) }
+    ensures { MatchOption result (AllDigits 10 bytes.now → ⊥) (λ n.
+        AllDigits 10 bytes.now × (n ≡ digits_value 10 bytes.now)) }
 {
     let mut value: u64 = 0;
     for byte in bytes {
@@ -39,9 +37,11 @@ fn unsigned(bytes: &[u8]) -> Option<u64>
     }
 }
 
-// The number of 1 to 11 digits without leading nought, which a minus may stand before if it is not nought.
+// The number of 1 to 11 digits without leading nought, which a minus may stand before if it is not
+// nought.
 fn signed(bytes: &[u8]) -> Option<i64>
-    ensures { MatchOption result ((z : ℤ) → WritesSigned bytes.now z → ⊥) (λ z. WritesSigned bytes.now z) }
+    ensures { MatchOption result ((z : ℤ) → WritesSigned bytes.now z → ⊥) (λ z.
+        WritesSigned bytes.now z) }
 {
     match bytes {
         [b'-', digits @ ..] => match unsigned(digits)? {
@@ -55,22 +55,22 @@ fn signed(bytes: &[u8]) -> Option<i64>
 impl Part<'_> {
     // The number that the part writes.
     pub fn number(self) -> Result<u64, Fault>
-        ensures rule { MatchResult result (λ n. (is_number self.entry.bytes.now ≡ true) × (n ≡ digits_value 10 self.entry.bytes.now)) (λ _. is_number self.entry.bytes.now ≡ false) }
-        ensures value { MatchResult result (λ n. Writes self.entry.bytes.now n) (λ fault. ((n : ℕ) → Writes self.entry.bytes.now n → ⊥) × (fault ≡ text_fault 4 Field self.entry.spot.line self.entry.spot.offset)) }
+        ensures rule { IsNumberByRule self.entry result }
+        ensures value { ReadsNumber self.entry result }
     {
         unsigned(self.bytes).ok_or(self.spot.fault(Rule::Number))
     }
 
     // The number that the part writes, which may be below nought.
     pub fn signed(self) -> Result<i64, Fault>
-        ensures { MatchResult result (λ z. WritesSigned self.entry.bytes.now z) (λ fault. ((z : ℤ) → WritesSigned self.entry.bytes.now z → ⊥) × (fault ≡ text_fault 4 Field self.entry.spot.line self.entry.spot.offset)) }
+        ensures { ReadsSigned self.entry result }
     {
         signed(self.bytes).ok_or(self.spot.fault(Rule::Number))
     }
 
     // The number of a field, if it is from `low` to `high`.
     pub fn within(self, number: u64, low: usize, high: usize) -> Result<usize, Fault>
-        ensures { MatchResult result (λ n. (n ≡ number) × (low ≤ n) × (n ≤ high)) (λ fault. (in_range (range low high) number ≡ false) × (fault ≡ text_fault 5 Field self.entry.spot.line self.entry.spot.offset)) }
+        ensures { IsWithin self.entry number low high result }
     {
         let number = number as usize;
         if low <= number && number <= high {

@@ -1,12 +1,11 @@
 // Reading a sheet into columns.
-ghost use Rattle.std.specs.Prelude.{◌≡◌, ℕ, List, MatchResult, IsOkAnd, IfOk, IfErr, Err};
+ghost use Rattle.std.specs.Prelude.{◌≡◌, ℕ, List, IsOkAnd, IfOk, IfErr, Err};
 ghost use Rattle.units.specs.declared.fault.Fault.{Fault};
 ghost use Rattle.sheet.specs.Faults.{Refuses, InText};
 ghost use Rattle.sheet.specs.Fields.{bytes_of};
-ghost use Rattle.sheet.specs.Lines.{start};
 ghost use Rattle.sheet.specs.Readers.{held};
-ghost use Rattle.sheet.specs.Reading.{Reads, ends, refused, nothing_yet};
-ghost use Rattle.sheet.specs.Readings.{lengths, IsRestAfter, IsRead};
+ghost use Rattle.sheet.specs.Reading.{nothing_yet};
+ghost use Rattle.sheet.specs.Readings.{lengths, IsRestAfter, ReadsLines, IsRead, ReadsSheet};
 ghost use Rattle.sheet.specs.Sheets.{Sheet, IsSheet, basis_of};
 ghost use Rattle.sheet.specs.Texts.{text_of};
 ghost use Rattle.sheet.specs.WorkedSheet.{worked_sheet, worked_text};
@@ -25,7 +24,7 @@ use units::fault::Fault;
 // Takes line after line up to the end of the sheet, and gives what stands after it.
 fn read_lines<'a>(bytes: &'a [u8], reader: &mut Reader, columns: Columns) -> Result<Part<'a>, Fault>
     requires { held reader.old ≡ nothing_yet }
-    ensures outcome { MatchResult result (λ rest. Reads columns nothing_yet start bytes.now (ends (held reader.new) (bytes_of rest))) (λ fault. Reads columns nothing_yet start bytes.now (refused fault)) }
+    ensures outcome { ReadsLines columns bytes.now (held reader.new) result }
     ensures rest { IfOk result (λ rest. (before : List ℕ) × IsRestAfter before bytes.now rest) }
 {
     let mut text = Part::new(bytes);
@@ -38,17 +37,21 @@ fn read_lines<'a>(bytes: &'a [u8], reader: &mut Reader, columns: Columns) -> Res
     }
 }
 
-// Reads a sheet at the head of the input into the first places of the columns, or says which line first breaks a rule, and which
-// rule, and leaves the columns as they were.
+// Reads a sheet at the head of the input into the first places of the columns, or says which line
+// first breaks a rule, and which rule, and leaves the columns as they were.
 pub fn read<'a>(
     bytes: &'a [u8],
     factors: &mut [i64],
     shares: &mut [i64],
 ) -> Result<Reading<'a>, Fault>
-    ensures answer { MatchResult result (λ reading. (s : Sheet) × IsRead bytes.now factors.old shares.old factors.new shares.new reading s) (λ fault. Refuses (lengths factors.old shares.old) bytes.now fault × (factors.new ≡ factors.old) × (shares.new ≡ shares.old)) }
-    ensures every_sheet { (s : Sheet) (rest : List ℕ) → IsSheet (lengths factors.old shares.old) bytes.now s rest → IsOkAnd result (λ reading. (bytes_of reading.rest ≡ rest) × IsRead bytes.now factors.old shares.old factors.new shares.new reading s) }
-    ensures every_fault { (fault : Fault) → Refuses (lengths factors.old shares.old) bytes.now fault → result ≡ Err fault }
-    ensures told { IfErr result (λ fault. InText 2 8 fault) }
+    ensures answer { ReadsSheet bytes.now factors.old shares.old factors.new shares.new result }
+    ensures every_sheet { (s : Sheet) (rest : List ℕ) →
+        IsSheet (lengths factors.old shares.old) bytes.now s rest →
+        IsOkAnd result (λ reading. (bytes_of reading.rest ≡ rest)
+        × IsRead bytes.now factors.old shares.old factors.new shares.new reading s) }
+    ensures every_fault { (fault : Fault) →
+        Refuses (lengths factors.old shares.old) bytes.now fault → result ≡ Err fault }
+    ensures told { IfErr result (InText 2 8) }
     ensures worked { text_of (basis_of worked_sheet) ≡ worked_text }
 {
     let columns = Columns {

@@ -1,9 +1,7 @@
 // The rows of a year, and the end of a sheet.
-ghost use Rattle.std.specs.Prelude.{◌≡◌, ◌≤◌, [], length, true, false, MatchResult, sum};
-ghost use Rattle.units.specs.Faults.{text_fault};
-ghost use Rattle.units.specs.declared.fault.Layer.TheVariants.{Sheet};
+ghost use Rattle.std.specs.Prelude.{◌≡◌, ◌≤◌, [], length, sum};
 ghost use Rattle.sheet.specs.Checks.{end_line, full_rows};
-ghost use Rattle.sheet.specs.Readers.{held, Takes};
+ghost use Rattle.sheet.specs.Readers.{held, KeepsRows, Takes};
 
 use super::Reader;
 use crate::spot::Spot;
@@ -42,7 +40,7 @@ impl Reader {
     }
 
     pub(super) fn check_rows(&self, spot: Spot) -> Result<(), Fault>
-        ensures { MatchResult result (λ _. full_rows (held self.now) ≡ true) (λ fault. (full_rows (held self.now) ≡ false) × (fault ≡ text_fault 8 Sheet spot.line spot.offset)) }
+        ensures { KeepsRows (held self.now) spot result }
     {
         if self.has_full_rows() {
             Ok(())

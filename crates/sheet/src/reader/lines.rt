@@ -1,8 +1,5 @@
 // One line of a sheet.
-ghost use Rattle.std.specs.Prelude.{◌≡◌, Some, None, MatchResult};
-ghost use Rattle.sheet.specs.Checks.{first_broken, part_checks, made_by, ends_sheet};
-ghost use Rattle.sheet.specs.Fields.{bytes_of};
-ghost use Rattle.sheet.specs.Lines.{parts};
+ghost use Rattle.sheet.specs.Outcomes.{LeadsOn};
 ghost use Rattle.sheet.specs.Readers.{held};
 
 use super::Reader;
@@ -15,7 +12,7 @@ use units::rule::Rule;
 impl Reader {
     // Takes a line if it breaks no rule, and says whether it ends the sheet.
     pub(crate) fn take(&mut self, whole: Part<'_>, columns: Columns) -> Result<bool, Fault>
-        ensures { MatchResult result (λ ends. (first_broken (part_checks columns (held self.old) whole.entry.spot (parts (bytes_of whole.entry))) ≡ None) × (held self.new ≡ made_by columns (held self.old) whole.entry.spot (parts (bytes_of whole.entry))) × (ends ≡ ends_sheet (parts (bytes_of whole.entry)))) (λ fault. first_broken (part_checks columns (held self.old) whole.entry.spot (parts (bytes_of whole.entry))) ≡ Some fault) }
+        ensures { LeadsOn columns (held self.old) whole.entry (held self.new) result }
     {
         let spot = whole.spot;
         match Line::split(whole)? {
