@@ -1,15 +1,12 @@
 -- The page of a sheet that was read into a table. Assumes nothing.
-use Rattle.std.proofs.Common.{◌≡◌, ◌++◌, ℕ, ◌+◌, ◌≤◌, List, [], length, pos, ℤ, sym, ap, subst, ◌∙◌, arith}
+use Rattle.std.proofs.Common.{◌≡◌, ◌++◌, ℕ, ◌+◌, ◌≤◌, List, [], length, pos, ap, subst, ◌∙◌, arith}
 use Rattle.std.proofs.lemmas.Int.{ints}
 use Rattle.units.specs.declared.fault.Fault.{Fault}
 use Rattle.basis.specs.Transitions.{Transitions}
 use Rattle.plan.specs.Endowments.{Holds, endows, endowment}
-use Rattle.plan.specs.Payments.{Payments}
 use Rattle.plan.specs.declared.endowment.Endowment.{Endowment}
 use Rattle.valuation.specs.Premiums.{LeastPremium, NoPremium}
-use Rattle.sheet.specs.Sheets.{Sheet, IsSheet, basis_of}
-use Rattle.sheet.specs.Taken.{most}
-use Rattle.sheet_reserves.specs.Outcomes.{IsPage, IsRefused, most_bytes, no_premium}
+use Rattle.sheet_reserves.specs.Outcomes.{IsPage, most_bytes}
 use Rattle.sheet_reserves.specs.Pages.{heading, opening, page, plan_over, rows}
 use Rattle.sheet_reserves.proofs.Cells.{behind}
 

@@ -1,5 +1,5 @@
 -- The page of an endowment's reserves on a basis. Assumes nothing.
-use Rattle.std.specs.Prelude.{ℕ, ◌+◌, ◌-◌, List, [], ◌∷◌, ◌++◌, length, codes, decimal, flat_map, replicate, pos}
+use Rattle.std.specs.Prelude.{ℕ, ◌+◌, ◌-◌, List, ◌++◌, length, codes, decimal, flat_map, replicate, pos}
 use Rattle.std.specs.List.{range_with_len}
 use Rattle.units.specs.Francs.{francs}
 use Rattle.basis.specs.Transitions.{Transitions}

@@ -4,7 +4,7 @@ ghost use Rattle.std.specs.String.{string_bytes};
 ghost use Rattle.basis.specs.TransitionTables.{transition_table};
 ghost use Rattle.plan.specs.Endowments.{endowment};
 ghost use Rattle.sheet_reserves.specs.Outcomes.{PageOutcome};
-ghost use Rattle.sheet_reserves.specs.Pages.{heading, opening, row, rows};
+ghost use Rattle.sheet_reserves.specs.Pages.{heading, opening, row, rows, state_heading};
 
 use crate::text::{write_at_right, write_text};
 use basis::Basis;
@@ -45,13 +45,19 @@ fn write_row(
     write_text(out, "\n")
 }
 
+fn write_state_heading(heap: Global, out: &mut String, state: usize) -> Result<(), AllocError>
+    ensures { OnOk result (string_bytes out.new ≡ string_bytes out.old ++ state_heading state) }
+{
+    write_at_right(out, 11, "state ")?;
+    write_text(out, state.to_string(heap)?.as_str())
+}
+
 fn write_heading(heap: Global, out: &mut String, states: usize) -> Result<(), AllocError>
     ensures { OnOk result (string_bytes out.new ≡ string_bytes out.old ++ heading states) }
 {
     write_text(out, "year")?;
     for state in 0..states {
-        write_at_right(out, 11, "state ")?;
-        write_text(out, state.to_string(heap)?.as_str())?;
+        write_state_heading(heap, out, state)?;
     }
     write_text(out, "\n")
 }

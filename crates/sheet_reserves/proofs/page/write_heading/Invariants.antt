@@ -5,4 +5,4 @@ use Rattle.sheet_reserves.specs.Pages.{state_heading}
 use Rattle.sheet_reserves.proofs.page.write_heading.Given as goal
 
 abbrev pub invariant-loop-state : goal.invariant-loop-state
-invariant-loop-state l = string_bytes l.out ≡ (string_bytes l.fn.out ++ codes "year") ++ flat_map state_heading (range_with_len 0 l.state-counter)
+invariant-loop-state l = string_bytes l.out ≡ (string_bytes l.fn.out ++ codes "year") ++ flat_map state_heading (range_with_len 0 l.state)
