@@ -4,6 +4,9 @@ ghost use Rattle.streams.specs.Runs.{Runs};
 ghost use Rattle.streams.specs.Streams.{IsReadInPart};
 ghost use Rattle.sheet_reserves.specs.Outcomes.{IsPage, most_bytes};
 
+#[cfg(test)]
+mod tests;
+
 use crate::page::{MOST_BYTES, page_of};
 use std::alloc::Global;
 use std::io::{Read, Write};
