@@ -24,6 +24,7 @@ returns-then-place-self c =
     let year : t ≡ digits_value 10 (bytes_of c.args.year) = grind arith in
     let from : i ≡ digits_value 10 (bytes_of c.args.from) = grind arith in
     let to : j ≡ digits_value 10 (bytes_of c.args.to) = grind arith in
+    let some : 1 ≤ c.in_ok-p-2.p = omega (arith, c.in_ok-p-2.ensures.1) in
     let after = after_shares (held r) i j t (this_year ∙ sym come) (grind arith) in
     grind (arith, nat_tests)
 
@@ -49,7 +50,7 @@ returns c =
     let fit = places_fit r.states r.years r.most_states r.most_years in
     let this_year : t + 1 ≡ r.come = omega (arith, c.if-t-self.false) in
     let rising : r.next ≤ place r.states i j t = omega (arith, c.if-place-self.false) in
-    let some : 1 ≤ p = grind arith in
+    let some : 1 ≤ p = omega (arith, c.in_ok-p-2.ensures.1) in
     let come : length (take r.come r.factors) ≡ r.come = length-take-le r.come r.factors (grind arith) in
     let next : length (take r.next r.shares) ≡ r.next = length-take-le r.next r.shares (grind arith) in
     let year : t ≡ digits_value 10 (bytes_of c.args.year) = grind arith in
