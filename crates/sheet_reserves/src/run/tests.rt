@@ -43,7 +43,7 @@ fn prints_three_states_over_twelve_years(rt: HostRuntime) -> Result<(), Fail> {
 #[test]
 fn prints_for_60_000_bytes_and_refuses_more(rt: HostRuntime) -> Result<(), Fail> {
     let mut text = sheet(rt.alloc())?;
-    while text.len() < 60_000 {
+    for _ in text.len()..60_000 {
         text.push_str("0")?;
     }
     check(&rt, rt.alloc(), text.as_str().as_bytes(), PAGE.as_bytes())?;
