@@ -56,13 +56,11 @@ static void same(const char *what, size_t place, int64_t got, int64_t expected)
     }
 }
 
-static void answered(uint8_t got, uint8_t expected)
-{
-    same("answer", 0, got, expected);
-    same("blocks of memory held after it", 0, (int64_t)blocks_held, 0);
-}
+// ---- where calls read and write
 
-// ---- where calls write
+// The premiums and the bounds that calls read, where they could be written too.
+static int64_t read_premiums[COUNT(premiums)];
+static int64_t read_bounds[COUNT(bounds)];
 
 // Two columns, with more places than any call is told of. No call answers what stands there first,
 // and it is no premium.
@@ -74,15 +72,40 @@ static int64_t untouched(const int64_t *column, size_t place)
     return (column == one ? -7000000000001 : -8000000000001) - (int64_t)place;
 }
 
+static void copy(int64_t *to, const int64_t *from, size_t count)
+{
+    for (size_t k = 0; k < count; k++) {
+        to[k] = from[k];
+    }
+}
+
 // Before a call, on what it is tried, with memory enough.
 static void begin(const char *on)
 {
     tried = on;
     blocks_left = 1000;
+    copy(read_premiums, premiums, COUNT(premiums));
+    copy(read_bounds, bounds, COUNT(bounds));
     for (size_t k = 0; k < COUNT(one); k++) {
         one[k] = untouched(one, k);
         two[k] = untouched(two, k);
     }
+}
+
+static void all_same(const char *what, const int64_t *got, const int64_t *expected, size_t count)
+{
+    for (size_t k = 0; k < count; k++) {
+        same(what, k, got[k], expected[k]);
+    }
+}
+
+// After a call: what it answers, and that it keeps no memory and leaves what it read.
+static void answered(uint8_t got, uint8_t expected)
+{
+    same("answer", 0, got, expected);
+    same("blocks of memory held after it", 0, (int64_t)blocks_held, 0);
+    all_same("premium that is read", read_premiums, premiums, COUNT(premiums));
+    all_same("bound that is read", read_bounds, bounds, COUNT(bounds));
 }
 
 // Numbers stand in the first places of a column, and the other places are as they were.
@@ -125,10 +148,10 @@ static void try_reserves(void)
 {
     call = "fineochre_reserves";
     begin("the long plan");
-    answered(fineochre_reserves(&on_long, 2, 1, premiums, 3, one, 3), FINEOCHRE_DONE);
+    answered(fineochre_reserves(&on_long, 2, 1, read_premiums, 3, one, 3), FINEOCHRE_DONE);
     written("reserve", one, long_reserves, 3);
     begin("the short plan, two premiums");
-    answered(fineochre_reserves(&on_short, 1, 0, premiums, 2, one, 2), FINEOCHRE_DONE);
+    answered(fineochre_reserves(&on_short, 1, 0, read_premiums, 2, one, 2), FINEOCHRE_DONE);
     written("reserve", one, short_reserves, 2);
 }
 
@@ -136,11 +159,11 @@ static void try_spans(void)
 {
     call = "fineochre_spans";
     begin("the long plan");
-    answered(fineochre_spans(&on_long, 2, 1, premiums, 3, one, 3, two, 3), FINEOCHRE_DONE);
+    answered(fineochre_spans(&on_long, 2, 1, read_premiums, 3, one, 3, two, 3), FINEOCHRE_DONE);
     written("least", one, long_least, 3);
     written("greatest", two, long_greatest, 3);
     begin("the short plan, two premiums");
-    answered(fineochre_spans(&on_short, 1, 0, premiums, 2, one, 2, two, 2), FINEOCHRE_DONE);
+    answered(fineochre_spans(&on_short, 1, 0, read_premiums, 2, one, 2, two, 2), FINEOCHRE_DONE);
     written("least", one, short_least, 2);
     written("greatest", two, short_greatest, 2);
 }
@@ -163,10 +186,10 @@ static void try_premiums(void)
 {
     call = "fineochre_premiums";
     begin("the long plan");
-    answered(fineochre_premiums(&on_long, 2, 1, bounds, 4, one, 4), FINEOCHRE_DONE);
+    answered(fineochre_premiums(&on_long, 2, 1, read_bounds, 4, one, 4), FINEOCHRE_DONE);
     written("premium", one, long_premiums, 4);
     begin("the short plan, three bounds");
-    answered(fineochre_premiums(&on_short, 1, 0, bounds, 3, one, 3), FINEOCHRE_DONE);
+    answered(fineochre_premiums(&on_short, 1, 0, read_bounds, 3, one, 3), FINEOCHRE_DONE);
     written("premium", one, short_premiums, 3);
 }
 
@@ -174,12 +197,12 @@ static void try_premiums(void)
 
 static uint8_t ask_reserves(const struct fineochre_columns *columns)
 {
-    return fineochre_reserves(columns, 2, 1, premiums, 3, one, 3);
+    return fineochre_reserves(columns, 2, 1, read_premiums, 3, one, 3);
 }
 
 static uint8_t ask_spans(const struct fineochre_columns *columns)
 {
-    return fineochre_spans(columns, 2, 1, premiums, 3, one, 3, two, 3);
+    return fineochre_spans(columns, 2, 1, read_premiums, 3, one, 3, two, 3);
 }
 
 static uint8_t ask_course(const struct fineochre_columns *columns)
@@ -189,7 +212,7 @@ static uint8_t ask_course(const struct fineochre_columns *columns)
 
 static uint8_t ask_premiums(const struct fineochre_columns *columns)
 {
-    return fineochre_premiums(columns, 2, 1, bounds, 4, one, 4);
+    return fineochre_premiums(columns, 2, 1, read_bounds, 4, one, 4);
 }
 
 static const struct {
@@ -243,7 +266,10 @@ static struct fineochre_columns unfit_columns(size_t k)
     return columns;
 }
 
-// Where there is no memory, it is wanting whatever the columns are.
+// The blocks that tables want, for factors, shares, benefits, marks and moves.
+enum { BLOCKS = 5 };
+
+// Where there is a block too few, memory is wanting whatever the columns are.
 static void try_unfit_columns(size_t v)
 {
     call = valuing[v].name;
@@ -251,23 +277,22 @@ static void try_unfit_columns(size_t v)
         const struct fineochre_columns columns = unfit_columns(k);
         begin(unfit[k].on);
         refused(valuing[v].ask(&columns), unfit[k].answer);
-        blocks_left = 0;
+        blocks_left = BLOCKS - 1;
         refused(valuing[v].ask(&columns), FINEOCHRE_NO_MEMORY);
     }
 }
 
-// Tables want five blocks, for factors, shares, benefits, marks and moves. With fewer a call stops,
-// wherever they give out.
+// A call stops wherever the blocks give out.
 static void try_want_of_memory(size_t v)
 {
     call = valuing[v].name;
-    for (size_t blocks = 0; blocks < 5; blocks++) {
+    for (size_t blocks = 0; blocks < BLOCKS; blocks++) {
         begin("want of memory");
         blocks_left = blocks;
         refused(valuing[v].ask(&on_long), FINEOCHRE_NO_MEMORY);
     }
     begin("memory that just suffices");
-    blocks_left = 5;
+    blocks_left = BLOCKS;
     answered(valuing[v].ask(&on_long), FINEOCHRE_DONE);
 }
 
@@ -276,6 +301,73 @@ static void try_all_valuing(void)
     for (size_t v = 0; v < COUNT(valuing); v++) {
         try_unfit_columns(v);
         try_want_of_memory(v);
+    }
+}
+
+// ---- tables of every size: memory is not wanting where there is enough
+
+enum { MOST_YEARS = 120, MOST_STATES = 8 };
+static int64_t whole_factors[MOST_YEARS];
+static int64_t staying[MOST_YEARS * MOST_STATES * MOST_STATES];
+static const int64_t noughts[MOST_STATES * MOST_STATES * MOST_YEARS];
+
+// Everybody stays: of the m x m shares of a year, each that is m + 1 after another is whole.
+static void fill_staying(size_t states)
+{
+    for (size_t k = 0; k < COUNT(staying); k++) {
+        whole_factors[k % MOST_YEARS] = 1000000;
+        staying[k] = k % (states * states) % (states + 1) == 0 ? 1000000 : 0;
+    }
+}
+
+static struct fineochre_columns of_size(size_t states, size_t years, size_t plan_years)
+{
+    const size_t places = MOST_STATES * (plan_years + 1);
+    return (struct fineochre_columns){
+        .states = states,
+        .years = years,
+        .factors = {whole_factors, years},
+        .shares = {staying, years * states * states},
+        .plan_years = plan_years,
+        .benefits = {noughts, places},
+        .marks = {noughts, places},
+        .moves = {noughts, MOST_STATES * MOST_STATES * plan_years},
+    };
+}
+
+// One of the calls, with nothing to write.
+static uint8_t ask_nothing(size_t which, const struct fineochre_columns *columns)
+{
+    switch (which % 4) {
+    case 0:
+        return fineochre_reserves(columns, 2, 1, read_premiums, 0, one, 0);
+    case 1:
+        return fineochre_spans(columns, 2, 1, read_premiums, 0, one, 0, two, 0);
+    case 2:
+        return fineochre_course(columns, premiums[2], MOST_YEARS + 1, one, 0);
+    default:
+        return fineochre_premiums(columns, 2, 1, read_bounds, 0, one, 0);
+    }
+}
+
+static void try_lengths(size_t states)
+{
+    fill_staying(states);
+    for (size_t k = 0; k < MOST_YEARS * (MOST_YEARS + 1); k++) {
+        const size_t years = 1 + k % MOST_YEARS, plan_years = k / MOST_YEARS;
+        const struct fineochre_columns columns = of_size(states, years, plan_years);
+        begin("tables of every size");
+        const uint8_t answer = ask_nothing(years + plan_years, &columns);
+        same("answer on a plan with so many years:", plan_years, answer, FINEOCHRE_DONE);
+        refused(answer, FINEOCHRE_DONE);
+    }
+}
+
+static void try_every_size(void)
+{
+    call = "a call that values columns";
+    for (size_t states = 2; states <= MOST_STATES; states++) {
+        try_lengths(states);
     }
 }
 
@@ -297,7 +389,7 @@ static void refuse_reserves(void)
     begin_without_memory("a place too few");
     refused(fineochre_reserves(&on_long, 2, 1, low_premiums, 3, one, 2), FINEOCHRE_UNFIT_PLACES);
     begin_without_memory("a place too many");
-    refused(fineochre_reserves(&on_long, 2, 1, premiums, 3, one, 4), FINEOCHRE_UNFIT_PLACES);
+    refused(fineochre_reserves(&on_long, 2, 1, read_premiums, 3, one, 4), FINEOCHRE_UNFIT_PLACES);
     begin_without_memory("a premium below nought");
     refused(fineochre_reserves(&on_long, 2, 1, low_premiums, 3, one, 3), FINEOCHRE_UNFIT_PREMIUM);
     begin_without_memory("a premium past the limit");
@@ -311,7 +403,8 @@ static void refuse_spans(void)
     refused(fineochre_spans(&on_long, 2, 1, low_premiums, 3, one, 2, two, 3),
             FINEOCHRE_UNFIT_PLACES);
     begin_without_memory("a place too many for the greatest");
-    refused(fineochre_spans(&on_long, 2, 1, premiums, 3, one, 3, two, 4), FINEOCHRE_UNFIT_PLACES);
+    refused(fineochre_spans(&on_long, 2, 1, read_premiums, 3, one, 3, two, 4),
+            FINEOCHRE_UNFIT_PLACES);
     begin_without_memory("a premium below nought");
     refused(fineochre_spans(&on_long, 2, 1, low_premiums, 3, one, 3, two, 3),
             FINEOCHRE_UNFIT_PREMIUM);
@@ -331,9 +424,9 @@ static void refuse_course_and_premiums(void)
     refused(fineochre_course(&on_long, premiums[2], 1, one, 5), FINEOCHRE_COURSE);
     call = "fineochre_premiums";
     begin_without_memory("a place too few");
-    refused(fineochre_premiums(&on_long, 2, 1, bounds, 4, one, 3), FINEOCHRE_UNFIT_PLACES);
+    refused(fineochre_premiums(&on_long, 2, 1, read_bounds, 4, one, 3), FINEOCHRE_UNFIT_PLACES);
     begin_without_memory("a place too many");
-    refused(fineochre_premiums(&on_long, 2, 1, bounds, 4, one, 5), FINEOCHRE_UNFIT_PLACES);
+    refused(fineochre_premiums(&on_long, 2, 1, read_bounds, 4, one, 5), FINEOCHRE_UNFIT_PLACES);
 }
 
 // ---- sheets, without memory
@@ -343,7 +436,6 @@ static const struct fineochre_sheet_report untold = {11, 12, 13, 14};
 static uint8_t read_sheet(const char *text, size_t length, struct fineochre_sheet_report *report)
 {
     call = "fineochre_read_sheet";
-    begin_without_memory(text);
     *report = untold;
     return fineochre_read_sheet((const uint8_t *)text, length, one, 4, two, 20, report);
 }
@@ -357,6 +449,7 @@ static void told(const struct fineochre_sheet_report *report, size_t line, size_
 static void try_sheet(void)
 {
     struct fineochre_sheet_report report;
+    begin_without_memory("a sheet and a rest");
     answered(read_sheet(sheet, sizeof(sheet) - 1, &report), FINEOCHRE_DONE);
     same("states", 0, (int64_t)report.states, SHEET_STATES);
     same("years", 0, (int64_t)report.years, SHEET_YEARS);
@@ -370,25 +463,27 @@ static void try_sheet(void)
 // A sheet for each rule, with the line and the offset of what breaks it, counted by hand. There are
 // four places for factors and twenty for shares.
 static const struct {
+    const char *on;
     const char *text;
     size_t length;
     uint8_t answer;
     size_t line, offset;
 } unread[] = {
-    {TEXT("B;2;1\nD;0;5"), FINEOCHRE_LINE_FEED, 2, 6},
-    {TEXT("B;2;1\nX\n"), FINEOCHRE_FORM, 2, 6},
-    {TEXT("B;2;1\nD;0;+1\n"), FINEOCHRE_NUMBER, 2, 10},
-    {TEXT("B;9;1\n"), FINEOCHRE_RANGE, 1, 2},
-    {TEXT("B;2;5\n"), FINEOCHRE_ROOM, 1, 0},
-    {TEXT("B;3;3\n"), FINEOCHRE_ROOM, 1, 0},
-    {TEXT("B;2;2\nD;1;5\n"), FINEOCHRE_ORDER, 2, 6},
-    {TEXT("B;2;1\nD;0;5\nT;0;0;0;6\nE\n"), FINEOCHRE_ROW, 4, 22},
+    {"a line that does not end", TEXT("B;2;1\nD;0;5"), FINEOCHRE_LINE_FEED, 2, 6},
+    {"another letter", TEXT("B;2;1\nX\n"), FINEOCHRE_FORM, 2, 6},
+    {"a sign", TEXT("B;2;1\nD;0;+1\n"), FINEOCHRE_NUMBER, 2, 10},
+    {"a state too many", TEXT("B;9;1\n"), FINEOCHRE_RANGE, 1, 2},
+    {"a factor too many", TEXT("B;2;5\n"), FINEOCHRE_ROOM, 1, 0},
+    {"shares too many", TEXT("B;3;3\n"), FINEOCHRE_ROOM, 1, 0},
+    {"another year", TEXT("B;2;2\nD;1;5\n"), FINEOCHRE_ORDER, 2, 6},
+    {"a row that is not whole", TEXT("B;2;1\nD;0;5\nT;0;0;0;6\nE\n"), FINEOCHRE_ROW, 4, 22},
 };
 
 static void refuse_sheets(void)
 {
     for (size_t k = 0; k < COUNT(unread); k++) {
         struct fineochre_sheet_report report;
+        begin_without_memory(unread[k].on);
         refused(read_sheet(unread[k].text, unread[k].length, &report), unread[k].answer);
         same("states", 0, (int64_t)report.states, 11);
         same("years", 0, (int64_t)report.years, 12);
@@ -403,6 +498,7 @@ int main(void)
     try_course();
     try_premiums();
     try_all_valuing();
+    try_every_size();
     refuse_reserves();
     refuse_spans();
     refuse_course_and_premiums();

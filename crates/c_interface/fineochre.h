@@ -3,8 +3,12 @@
 // Amounts, premiums, bounds and figures are in ticks, ten thousand to a franc; factors and shares
 // are parts of a million. States and years are counted from 0. Columns may be of any length and
 // hold any numbers: a call checks them and refuses what is unfit. It writes only where it answers
-// 0, but for the place of a fault in a sheet. It wants memory of malloc and free, where it makes
-// tables; all of it is free again when it answers.
+// 0, but for the place of a fault in a sheet. It asks malloc for memory where it makes tables, and
+// has given all of it back when it answers.
+//
+// The caller sees to it that no pointer is null, even where there are no entries, that each leads
+// to as many entries as are told, that what a call writes to overlaps nothing else that it is
+// handed, and that no call is made in a signal handler.
 #ifndef FINEOCHRE_H
 #define FINEOCHRE_H
 
@@ -41,8 +45,7 @@ enum fineochre_answer {
 // What fineochre_premiums writes for a bound that no premium reaches.
 #define FINEOCHRE_NO_PREMIUM (-1)
 
-// Numbers that are read, and how many there are. The pointer is never null, even where there are
-// none; this goes for every pointer here.
+// Numbers that are read, and how many there are.
 struct fineochre_column {
     const int64_t *entries;
     size_t count;
