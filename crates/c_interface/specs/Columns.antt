@@ -1,5 +1,6 @@
 -- The columns that C hands in: which are fit, the contract that they stand for, and why no tables are made of others. Assumes nothing.
-use Rattle.std.specs.Prelude.{◌≡◌, ℕ, ◌≤◌, map, unsigned_abs}
+use Rattle.std.specs.Prelude.{◌≡◌, ℕ, ◌≤◌, map, unsigned_abs, Result, IsOk, IsErr}
+use Rattle.std.specs.declared.alloc.AllocError.{AllocError}
 use Rattle.units.specs.declared.fault.Fault.{Fault}
 use Rattle.basis.specs.Transitions.{Transitions}
 use Rattle.basis.specs.TransitionColumns as transitions
@@ -10,6 +11,7 @@ use Rattle.plan.specs.PaymentColumns as payments
 use Rattle.plan.specs.PaymentTables as payment_tables
 use Rattle.plan.specs.declared.table.PaymentTable.{PaymentTable}
 use Rattle.c_interface.specs.declared.columns.Columns.{Columns}
+use Rattle.c_interface.specs.declared.columns.Tables.{Tables}
 
 -- the basis and the plan of columns that fit
 abbrev pub basis_of : Columns → Transitions
@@ -34,7 +36,11 @@ pub data Refuses (c : Columns) (fault : Fault) : Type 0 where
   of_basis : transitions.Refuses c.states c.years c.factors.now c.shares.now fault → Refuses c fault
   of_plan : transitions.Fit c.states c.years c.factors.now c.shares.now → payments.Refuses c.plan_years c.benefits.now c.marks.now c.moves.now fault → Refuses c fault
 
--- the number that tells why no tables are made of columns: 255 for want of memory, or else that of a fault, from 9 to 12
-pub data Stops (c : Columns) (number : ℕ) : Type 0 where
-  no_memory : number ≡ 255 → Stops c number
-  refused : (fault : Fault) → number ≡ fault.number → 9 ≤ number → number ≤ 12 → Refuses c fault → Stops c number
+-- what it comes to that memory is asked for both tables
+abbrev pub Asked : Type 0
+Asked = Result Tables AllocError
+
+-- the number that tells why no tables are made of columns: 255 where memory is wanting, and only there; or else that of a fault, from 9 to 12
+pub data Stops (asked : Asked) (c : Columns) (number : ℕ) : Type 0 where
+  no_memory : IsErr asked → number ≡ 255 → Stops asked c number
+  refused : (fault : Fault) → IsOk asked → number ≡ fault.number → 9 ≤ number → number ≤ 12 → Refuses c fault → Stops asked c number

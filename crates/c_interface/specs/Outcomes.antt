@@ -1,5 +1,5 @@
 -- What a call from C answers, and what it leaves where it writes. Assumes nothing.
-use Rattle.std.specs.Prelude.{◌≡◌, ℕ, ◌<◌, ◌≤◌, List, length, ℤ, pos, negsuc, slice_index_or, unsigned_abs}
+use Rattle.std.specs.Prelude.{◌≡◌, ℕ, ◌<◌, ◌≤◌, List, length, ℤ, pos, negsuc, slice_index_or, unsigned_abs, IsOk}
 use Rattle.units.specs.Columns.{AllBetween}
 use Rattle.units.specs.Ranges.{limit, WithinLimit}
 use Rattle.units.specs.declared.fault.Fault.{Fault}
@@ -9,7 +9,7 @@ use Rattle.valuation.specs.Courses.{Writes, Refuses}
 use Rattle.valuation.specs.Premiums.{Suffices, LeastPremium}
 use Rattle.valuation.specs.Reserves.{reserve}
 use Rattle.valuation.specs.Spans as spans
-use Rattle.c_interface.specs.Columns.{FitColumns, basis_of, plan_of, Stops}
+use Rattle.c_interface.specs.Columns.{Asked, FitColumns, basis_of, plan_of, Stops}
 use Rattle.c_interface.specs.declared.columns.Columns.{Columns}
 
 -- ---- what is written
@@ -47,12 +47,12 @@ module _ (c : Transitions) (p : Payments) (i t : ℕ) where
 
 -- ---- what is answered
 
--- the number that a call answers which wants places and premiums to fit, makes tables of columns, and then does what it is for
-pub data Outcome (c : Columns) (FitPlaces FitPremiums Unchanged : Type 0) (Done : ℕ → Type 0) (answer : ℕ) : Type 0 where
-  unfit_places : answer ≡ 253 → (FitPlaces → ⊥) → Unchanged → Outcome c FitPlaces FitPremiums Unchanged Done answer
-  unfit_premiums : answer ≡ 254 → FitPlaces → (FitPremiums → ⊥) → Unchanged → Outcome c FitPlaces FitPremiums Unchanged Done answer
-  no_tables : FitPlaces → FitPremiums → Stops c answer → Unchanged → Outcome c FitPlaces FitPremiums Unchanged Done answer
-  done : FitPlaces → FitPremiums → FitColumns c → Done answer → Outcome c FitPlaces FitPremiums Unchanged Done answer
+-- the number that a call answers which wants places and premiums to fit, makes tables of columns where there is memory, and then does what it is for
+pub data Outcome (asked : Asked) (c : Columns) (FitPlaces FitPremiums Unchanged : Type 0) (Done : ℕ → Type 0) (answer : ℕ) : Type 0 where
+  unfit_places : answer ≡ 253 → (FitPlaces → ⊥) → Unchanged → Outcome asked c FitPlaces FitPremiums Unchanged Done answer
+  unfit_premiums : answer ≡ 254 → FitPlaces → (FitPremiums → ⊥) → Unchanged → Outcome asked c FitPlaces FitPremiums Unchanged Done answer
+  no_tables : FitPlaces → FitPremiums → Stops asked c answer → Unchanged → Outcome asked c FitPlaces FitPremiums Unchanged Done answer
+  done : FitPlaces → FitPremiums → IsOk asked → FitColumns c → Done answer → Outcome asked c FitPlaces FitPremiums Unchanged Done answer
 
 -- all that is asked for is written, on the basis and the plan of the columns
 pub record Written (c : Columns) (What : Transitions → Payments → Type 0) (answer : ℕ) : Type 0 where
@@ -72,18 +72,19 @@ AsLong column other = length column ≡ length other
 abbrev pub AllPremiums : List ℤ → Type 0
 AllPremiums premiums = AllBetween (pos 0) (pos limit) premiums
 
-module _ (c : Columns) where
+-- what each call answers, by what asking for memory comes to
+module _ (asked : Asked) (c : Columns) where
   abbrev pub Reserves : ℕ → ℕ → List ℤ → List ℤ → List ℤ → ℕ → Type 0
-  Reserves i t premiums before after = Outcome c (AsLong before premiums) (AllPremiums premiums) (after ≡ before)
+  Reserves i t premiums before after = Outcome asked c (AsLong before premiums) (AllPremiums premiums) (after ≡ before)
       (Written c (λ b p. AsLong after premiums × ReservesAt b p i t premiums after))
 
   abbrev pub Spans : ℕ → ℕ → List ℤ → List ℤ → List ℤ → List ℤ → List ℤ → ℕ → Type 0
-  Spans i t premiums least greatest new_least new_greatest = Outcome c (AsLong least premiums × AsLong greatest premiums) (AllPremiums premiums) ((new_least ≡ least) × (new_greatest ≡ greatest))
+  Spans i t premiums least greatest new_least new_greatest = Outcome asked c (AsLong least premiums × AsLong greatest premiums) (AllPremiums premiums) ((new_least ≡ least) × (new_greatest ≡ greatest))
       (Written c (λ b p. (AsLong new_least premiums × AsLong new_greatest premiums) × SpansAt b p i t premiums new_least new_greatest))
 
   abbrev pub Course : ℤ → ℕ → List ℤ → List ℤ → ℕ → Type 0
-  Course premium t before after = Outcome c (Unit {0}) (WithinLimit premium) (after ≡ before) (CourseEnds c premium t before after)
+  Course premium t before after = Outcome asked c (Unit {0}) (WithinLimit premium) (after ≡ before) (CourseEnds c premium t before after)
 
   abbrev pub Premiums : ℕ → ℕ → List ℤ → List ℤ → List ℤ → ℕ → Type 0
-  Premiums i t bounds before after = Outcome c (AsLong before bounds) (Unit {0}) (after ≡ before)
+  Premiums i t bounds before after = Outcome asked c (AsLong before bounds) (Unit {0}) (after ≡ before)
       (Written c (λ b p. AsLong after bounds × PremiumsFor b p i t bounds after))

@@ -1,5 +1,5 @@
 // The columns that C hands in, and the tables that are made of them.
-ghost use Rattle.std.specs.Prelude.{◌≤◌, IfErr, MatchResult};
+ghost use Rattle.std.specs.Prelude.{◌≤◌, IsOk, IfErr, MatchResult};
 ghost use Rattle.c_interface.specs.Columns.{Made, Refuses, Stops};
 
 use basis::table::TransitionTable;
@@ -32,9 +32,9 @@ pub(crate) struct Tables {
 }
 
 impl Tables {
-    // All the memory that an export asks for. It sees no columns, so whether there is memory cannot
-    // hang on them.
-    fn new(heap: Global) -> Result<Tables, AllocError> {
+    // All the memory that an export asks for. It sees nothing that is handed in, so whether there
+    // is memory cannot hang on that.
+    pub(crate) fn new(heap: Global) -> Result<Tables, AllocError> {
         Ok(Tables {
             basis: TransitionTable::new(heap)?,
             plan: PaymentTable::new(heap)?,
@@ -58,11 +58,11 @@ impl Tables {
 }
 
 impl Columns<'_> {
-    // Both tables, or the number that tells why they are not made.
-    pub(crate) fn tables(&self, heap: Global) -> Result<Tables, u8>
-        ensures { MatchResult result (λ tables. Made self.now tables.basis tables.plan) (λ number. Stops self.now number) }
+    // Both tables, where there was memory for them, or the number that tells why they are not made.
+    pub(crate) fn tables(&self, asked: Result<Tables, AllocError>) -> Result<Tables, u8>
+        ensures { MatchResult result (λ tables. IsOk asked × Made self.now tables.basis tables.plan) (λ number. Stops asked self.now number) }
     {
-        let Ok(mut tables) = Tables::new(heap) else {
+        let Ok(mut tables) = asked else {
             return Err(NO_MEMORY);
         };
         match tables.take_in(self) {
