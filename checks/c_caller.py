@@ -1,9 +1,9 @@
 #!/usr/bin/env python3
 """The case on which `c_caller.c` calls every export, computed apart from the engine.
 
-Prints what `c_case.h` holds: the columns that are handed in, and the figures that are to come. The basis has
-three states and two years, one plan is a year longer than it and one a year shorter, and all numbers differ,
-so that two that change places show.
+Prints what `c_case.h` holds: the columns that are handed in, and the figures that are to come. The
+basis has three states and two years, one plan is a year longer than it and one a year shorter, and
+all numbers differ, so that two that change places show.
 """
 from rules import LIMIT, MILLION, least_premium, reserves, spans
 
