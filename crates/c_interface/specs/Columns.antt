@@ -1,4 +1,5 @@
--- The columns that C hands in: which are fit, the contract that they stand for, and why no tables are made of others. Assumes nothing.
+-- The columns that C hands in: which are fit, the contract that they stand for, and why no tables
+-- are made of others. Assumes nothing.
 use Rattle.std.specs.Prelude.{◌≡◌, ℕ, ◌≤◌, map, unsigned_abs, Result, IsOk, IsErr}
 use Rattle.std.specs.declared.alloc.AllocError.{AllocError}
 use Rattle.units.specs.declared.fault.Fault.{Fault}
@@ -34,13 +35,17 @@ pub record Made (c : Columns) (s : TransitionTable) (p : PaymentTable) : Type 0 
 -- the first fault of columns: those of the basis come first
 pub data Refuses (c : Columns) (fault : Fault) : Type 0 where
   of_basis : transitions.Refuses c.states c.years c.factors.now c.shares.now fault → Refuses c fault
-  of_plan : transitions.Fit c.states c.years c.factors.now c.shares.now → payments.Refuses c.plan_years c.benefits.now c.marks.now c.moves.now fault → Refuses c fault
+  of_plan : transitions.Fit c.states c.years c.factors.now c.shares.now
+      → payments.Refuses c.plan_years c.benefits.now c.marks.now c.moves.now fault
+      → Refuses c fault
 
 -- what it comes to that memory is asked for both tables
 abbrev pub Asked : Type 0
 Asked = Result Tables AllocError
 
--- the number that tells why no tables are made of columns: 255 where memory is wanting, and only there; or else that of a fault, from 9 to 12
+-- the number that tells why no tables are made of columns: 255 where memory is wanting, and only
+-- there; or else that of a fault, from 9 to 12
 pub data Stops (asked : Asked) (c : Columns) (number : ℕ) : Type 0 where
   no_memory : IsErr asked → number ≡ 255 → Stops asked c number
-  refused : (fault : Fault) → IsOk asked → number ≡ fault.number → 9 ≤ number → number ≤ 12 → Refuses c fault → Stops asked c number
+  refused : (fault : Fault) → IsOk asked → number ≡ fault.number → 9 ≤ number → number ≤ 12
+      → Refuses c fault → Stops asked c number

@@ -1,5 +1,6 @@
 -- What a call from C answers, and what it leaves where it writes. Assumes nothing.
-use Rattle.std.specs.Prelude.{◌≡◌, ℕ, ◌<◌, ◌≤◌, List, length, ℤ, pos, negsuc, slice_index_or, unsigned_abs, IsOk}
+use Rattle.std.specs.Prelude.{◌≡◌, ℕ, ◌<◌, ◌≤◌, List, length, ℤ, pos, negsuc, IsOk}
+use Rattle.std.specs.Prelude.{slice_index_or, unsigned_abs}
 use Rattle.units.specs.Columns.{AllBetween}
 use Rattle.units.specs.Ranges.{limit, WithinLimit}
 use Rattle.units.specs.declared.fault.Fault.{Fault}
@@ -47,12 +48,14 @@ module _ (c : Transitions) (p : Payments) (i t : ℕ) where
 
 -- ---- what is answered
 
--- the number that a call answers which wants places and premiums to fit, makes tables of columns where there is memory, and then does what it is for
-pub data Outcome (asked : Asked) (c : Columns) (FitPlaces FitPremiums Unchanged : Type 0) (Done : ℕ → Type 0) (answer : ℕ) : Type 0 where
-  unfit_places : answer ≡ 253 → (FitPlaces → ⊥) → Unchanged → Outcome asked c FitPlaces FitPremiums Unchanged Done answer
-  unfit_premiums : answer ≡ 254 → FitPlaces → (FitPremiums → ⊥) → Unchanged → Outcome asked c FitPlaces FitPremiums Unchanged Done answer
-  no_tables : FitPlaces → FitPremiums → Stops asked c answer → Unchanged → Outcome asked c FitPlaces FitPremiums Unchanged Done answer
-  done : FitPlaces → FitPremiums → IsOk asked → FitColumns c → Done answer → Outcome asked c FitPlaces FitPremiums Unchanged Done answer
+-- the number that a call answers which wants places and premiums to fit, makes tables of columns
+-- where there is memory, and then does what it is for
+module _ (asked : Asked) (c : Columns) (FitPlaces FitPremiums Unchanged : Type 0) where
+  pub data Outcome (Done : ℕ → Type 0) (answer : ℕ) : Type 0 where
+    unfit_places : answer ≡ 253 → (FitPlaces → ⊥) → Unchanged → Outcome Done answer
+    unfit_premiums : answer ≡ 254 → FitPlaces → (FitPremiums → ⊥) → Unchanged → Outcome Done answer
+    no_tables : FitPlaces → FitPremiums → Stops asked c answer → Unchanged → Outcome Done answer
+    done : FitPlaces → FitPremiums → IsOk asked → FitColumns c → Done answer → Outcome Done answer
 
 -- all that is asked for is written, on the basis and the plan of the columns
 pub record Written (c : Columns) (What : Transitions → Payments → Type 0) (answer : ℕ) : Type 0 where
@@ -75,16 +78,23 @@ AllPremiums premiums = AllBetween (pos 0) (pos limit) premiums
 -- what each call answers, by what asking for memory comes to
 module _ (asked : Asked) (c : Columns) where
   abbrev pub Reserves : ℕ → ℕ → List ℤ → List ℤ → List ℤ → ℕ → Type 0
-  Reserves i t premiums before after = Outcome asked c (AsLong before premiums) (AllPremiums premiums) (after ≡ before)
+  Reserves i t premiums before after =
+      Outcome asked c (AsLong before premiums) (AllPremiums premiums) (after ≡ before)
       (Written c (λ b p. AsLong after premiums × ReservesAt b p i t premiums after))
 
   abbrev pub Spans : ℕ → ℕ → List ℤ → List ℤ → List ℤ → List ℤ → List ℤ → ℕ → Type 0
-  Spans i t premiums least greatest new_least new_greatest = Outcome asked c (AsLong least premiums × AsLong greatest premiums) (AllPremiums premiums) ((new_least ≡ least) × (new_greatest ≡ greatest))
-      (Written c (λ b p. (AsLong new_least premiums × AsLong new_greatest premiums) × SpansAt b p i t premiums new_least new_greatest))
+  Spans i t premiums least greatest new_least new_greatest =
+      Outcome asked c (AsLong least premiums × AsLong greatest premiums) (AllPremiums premiums)
+      ((new_least ≡ least) × (new_greatest ≡ greatest))
+      (Written c (λ b p. (AsLong new_least premiums × AsLong new_greatest premiums)
+      × SpansAt b p i t premiums new_least new_greatest))
 
   abbrev pub Course : ℤ → ℕ → List ℤ → List ℤ → ℕ → Type 0
-  Course premium t before after = Outcome asked c (Unit {0}) (WithinLimit premium) (after ≡ before) (CourseEnds c premium t before after)
+  Course premium t before after =
+      Outcome asked c (Unit {0}) (WithinLimit premium) (after ≡ before)
+      (CourseEnds c premium t before after)
 
   abbrev pub Premiums : ℕ → ℕ → List ℤ → List ℤ → List ℤ → ℕ → Type 0
-  Premiums i t bounds before after = Outcome asked c (AsLong before bounds) (Unit {0}) (after ≡ before)
+  Premiums i t bounds before after =
+      Outcome asked c (AsLong before bounds) (Unit {0}) (after ≡ before)
       (Written c (λ b p. AsLong after bounds × PremiumsFor b p i t bounds after))

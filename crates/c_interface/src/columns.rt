@@ -44,7 +44,8 @@ impl Tables {
     // Both tables of the columns, or the first fault, of the basis before the plan. It wants no
     // memory.
     fn take_in(&mut self, columns: &Columns) -> Result<(), Fault>
-        ensures outcome { MatchResult result (λ _. Made columns.now self.new.basis self.new.plan) (λ fault. Refuses columns.now fault) }
+        ensures outcome { MatchResult result (λ _. Made columns.now self.new.basis self.new.plan)
+            (λ fault. Refuses columns.now fault) }
         ensures numbers { IfErr result (λ fault. 9 ≤ fault.number × fault.number ≤ 12) }
     {
         let (states, years) = (columns.states, columns.years);
@@ -60,7 +61,9 @@ impl Tables {
 impl Columns<'_> {
     // Both tables, where there was memory for them, or the number that tells why they are not made.
     pub(crate) fn tables(&self, asked: Result<Tables, AllocError>) -> Result<Tables, u8>
-        ensures { MatchResult result (λ tables. IsOk asked × Made self.now tables.basis tables.plan) (λ number. Stops asked self.now number) }
+        ensures { MatchResult result
+            (λ tables. IsOk asked × Made self.now tables.basis tables.plan)
+            (λ number. Stops asked self.now number) }
     {
         let Ok(mut tables) = asked else {
             return Err(NO_MEMORY);

@@ -30,7 +30,8 @@ fn answer_course(
     }
 }
 
-// The course from a year on. A column that is too short for it is refused as the library refuses it.
+// The course from a year on. A column that is too short for it is refused as the library refuses
+// it.
 #[unsafe(no_mangle)]
 pub extern "C" fn fineochre_course(
     heap: Global,
@@ -39,7 +40,8 @@ pub extern "C" fn fineochre_course(
     year: usize,
     column: &mut [i64],
 ) -> u8
-    ensures { (asked : Asked) × Course asked columns.now premium year column.old column.new result }
+    ensures { (asked : Asked) × Course asked columns.now
+        premium year column.old column.new result }
 {
     answer_course(Tables::new(heap), columns, premium, year, column)
 }

@@ -56,8 +56,8 @@ fn answer_premiums(
     }
 }
 
-// The least premiums at which the reserve in a state and a year is not above a bound, one for each of the bounds, and -1 where no
-// premium will do.
+// The least premiums at which the reserve in a state and a year is not above a bound, one for each
+// of the bounds, and -1 where no premium will do.
 #[unsafe(no_mangle)]
 pub extern "C" fn fineochre_premiums(
     heap: Global,
@@ -67,7 +67,8 @@ pub extern "C" fn fineochre_premiums(
     bounds: &[i64],
     premiums: &mut [i64],
 ) -> u8
-    ensures { (asked : Asked) × Premiums asked columns.now state year bounds.now premiums.old premiums.new result }
+    ensures { (asked : Asked) × Premiums asked columns.now
+        state year bounds.now premiums.old premiums.new result }
 {
     answer_premiums(Tables::new(heap), columns, state, year, bounds, premiums)
 }

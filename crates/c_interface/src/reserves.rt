@@ -65,7 +65,8 @@ pub extern "C" fn fineochre_reserves(
     premiums: &[i64],
     reserves: &mut [i64],
 ) -> u8
-    ensures { (asked : Asked) × Reserves asked columns.now state year premiums.now reserves.old reserves.new result }
+    ensures { (asked : Asked) × Reserves asked columns.now
+        state year premiums.now reserves.old reserves.new result }
 {
     answer_reserves(Tables::new(heap), columns, state, year, premiums, reserves)
 }

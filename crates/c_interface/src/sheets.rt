@@ -10,7 +10,8 @@ use crate::DONE;
 use sheet::read::read;
 use units::fault::Place;
 
-// What C is told of a sheet: its numbers, and the line and the offset where the rest of the input begins, or where a fault stands.
+// What C is told of a sheet: its numbers, and the line and the offset where the rest of the input
+// begins, or where a fault stands.
 #[derive(Clone, Copy)]
 #[repr(C)]
 pub struct SheetReport {
@@ -20,8 +21,8 @@ pub struct SheetReport {
     pub offset: usize,
 }
 
-// Reads a sheet at the head of the bytes into the first places of the columns. A refusal leaves them as they were, and in the report
-// the states and years too.
+// Reads a sheet at the head of the bytes into the first places of the columns. A refusal leaves them
+// as they were, and in the report the states and years too.
 #[unsafe(no_mangle)]
 pub extern "C" fn fineochre_read_sheet(
     bytes: &[u8],

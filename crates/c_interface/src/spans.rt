@@ -43,7 +43,8 @@ fn answer_spans(
     least: &mut [i64],
     greatest: &mut [i64],
 ) -> u8
-    ensures { Spans asked columns.now state year premiums.now least.old greatest.old least.new greatest.new result }
+    ensures { Spans asked columns.now state year premiums.now
+        least.old greatest.old least.new greatest.new result }
 {
     if least.len() != premiums.len() || greatest.len() != premiums.len() {
         return UNFIT_PLACES;
@@ -71,7 +72,8 @@ pub extern "C" fn fineochre_spans(
     least: &mut [i64],
     greatest: &mut [i64],
 ) -> u8
-    ensures { (asked : Asked) × Spans asked columns.now state year premiums.now least.old greatest.old least.new greatest.new result }
+    ensures { (asked : Asked) × Spans asked columns.now
+        state year premiums.now least.old greatest.old least.new greatest.new result }
 {
     answer_spans(
         Tables::new(heap),
