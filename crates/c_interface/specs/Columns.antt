@@ -16,7 +16,8 @@ use Rattle.c_interface.specs.declared.columns.Tables.{Tables}
 
 -- the basis and the plan of columns that fit
 abbrev pub basis_of : Columns → Transitions
-basis_of c = transition_tables.tabled c.states (map unsigned_abs c.factors.now) (map unsigned_abs c.shares.now)
+basis_of c = transition_tables.tabled c.states
+    (map unsigned_abs c.factors.now) (map unsigned_abs c.shares.now)
 
 abbrev pub plan_of : Columns → Payments
 plan_of c = payments.tabled c.plan_years c.benefits.now c.marks.now c.moves.now

@@ -24,7 +24,8 @@ premium_at premiums k = unsigned_abs (entry premiums k)
 
 -- each place below k has the value in state i and year t at the premium of that place
 abbrev pub ValuesBelow : ℕ → (ℕ → ℕ → ℕ → ℤ) → ℕ → ℕ → List ℤ → List ℤ → Type 0
-ValuesBelow below value i t premiums column = (k : ℕ) → k < below → entry column k ≡ value (premium_at premiums k) i t
+ValuesBelow below value i t premiums column =
+    (k : ℕ) → k < below → entry column k ≡ value (premium_at premiums k) i t
 
 module _ (c : Transitions) (p : Payments) (i t : ℕ) where
   abbrev pub ReservesAt : List ℤ → List ℤ → Type 0
@@ -37,11 +38,15 @@ module _ (c : Transitions) (p : Payments) (i t : ℕ) where
 
   -- what is written for a bound: the least premium that suffices, or -1 where none does
   pub data PremiumFor (bound written : ℤ) : Type 0 where
-    least_premium : (premium : ℕ) → written ≡ pos premium → LeastPremium c p i t bound premium → PremiumFor bound written
-    no_premium : written ≡ negsuc 0 → ((premium : ℕ) → premium ≤ limit → Suffices c p i t bound premium → ⊥) → PremiumFor bound written
+    least_premium : (premium : ℕ) → written ≡ pos premium → LeastPremium c p i t bound premium
+        → PremiumFor bound written
+    no_premium : written ≡ negsuc 0
+        → ((premium : ℕ) → premium ≤ limit → Suffices c p i t bound premium → ⊥)
+        → PremiumFor bound written
 
   abbrev pub PremiumsBelow : ℕ → List ℤ → List ℤ → Type 0
-  PremiumsBelow below bounds premiums = (k : ℕ) → k < below → PremiumFor (entry bounds k) (entry premiums k)
+  PremiumsBelow below bounds premiums =
+      (k : ℕ) → k < below → PremiumFor (entry bounds k) (entry premiums k)
 
   abbrev pub PremiumsFor : List ℤ → List ℤ → Type 0
   PremiumsFor bounds premiums = PremiumsBelow (length bounds) bounds premiums
@@ -58,14 +63,19 @@ module _ (asked : Asked) (c : Columns) (FitPlaces FitPremiums Unchanged : Type 0
     done : FitPlaces → FitPremiums → IsOk asked → FitColumns c → Done answer → Outcome Done answer
 
 -- all that is asked for is written, on the basis and the plan of the columns
-pub record Written (c : Columns) (What : Transitions → Payments → Type 0) (answer : ℕ) : Type 0 where
+pub record Written (c : Columns) (What : Transitions → Payments → Type 0) (answer : ℕ)
+    : Type 0 where
   pub told : answer ≡ 0
   pub what : What (basis_of c) (plan_of c)
 
 -- the course is written, or refused where the column is too short for it
-pub data CourseEnds (c : Columns) (premium : ℤ) (t : ℕ) (before after : List ℤ) (answer : ℕ) : Type 0 where
-  course_written : answer ≡ 0 → Writes (basis_of c) (plan_of c) (unsigned_abs premium) t before after → CourseEnds c premium t before after answer
-  course_refused : (fault : Fault) → answer ≡ fault.number → Refuses (basis_of c) t before after fault → CourseEnds c premium t before after answer
+pub data CourseEnds (c : Columns) (premium : ℤ) (t : ℕ) (before after : List ℤ) (answer : ℕ)
+    : Type 0 where
+  course_written : answer ≡ 0
+      → Writes (basis_of c) (plan_of c) (unsigned_abs premium) t before after
+      → CourseEnds c premium t before after answer
+  course_refused : (fault : Fault) → answer ≡ fault.number
+      → Refuses (basis_of c) t before after fault → CourseEnds c premium t before after answer
 
 -- a column has as many places as another
 abbrev pub AsLong : List ℤ → List ℤ → Type 0

@@ -15,7 +15,8 @@ const NO_PREMIUM: i64 = -1;
 
 // What is written for a bound.
 fn entry_for(tables: &Tables, state: usize, year: usize, bound: i64) -> i64
-    ensures { PremiumFor (transition_table tables.now.basis) (payment_table tables.now.plan) state year bound result }
+    ensures { PremiumFor (transition_table tables.now.basis) (payment_table tables.now.plan)
+        state year bound result }
 {
     match least_premium(&tables.basis, &tables.plan, state, year, bound) {
         Ok(premium) => premium.ticks() as i64,
@@ -26,7 +27,8 @@ fn entry_for(tables: &Tables, state: usize, year: usize, bound: i64) -> i64
 // Writes at each place the least premium for the bound of that place.
 fn fill_premiums(tables: &Tables, state: usize, year: usize, bounds: &[i64], premiums: &mut [i64])
     requires { length premiums.old ≡ length bounds.now }
-    ensures { PremiumsFor (transition_table tables.now.basis) (payment_table tables.now.plan) state year bounds.now premiums.new }
+    ensures { PremiumsFor (transition_table tables.now.basis) (payment_table tables.now.plan)
+        state year bounds.now premiums.new }
 {
     for (k, place) in premiums.iter_mut().enumerate() {
         *place = entry_for(tables, state, year, bounds[k]);

@@ -16,7 +16,8 @@ use valuation::reserve::reserve;
 fn fill_reserves(tables: &Tables, state: usize, year: usize, premiums: &[i64], reserves: &mut [i64])
     requires places { length reserves.old ≡ length premiums.now }
     requires premiums { AllBetween (pos 0) (pos limit) premiums.now }
-    ensures { ReservesAt (transition_table tables.now.basis) (payment_table tables.now.plan) state year premiums.now reserves.new }
+    ensures { ReservesAt (transition_table tables.now.basis) (payment_table tables.now.plan)
+        state year premiums.now reserves.new }
 {
     for (k, place) in reserves.iter_mut().enumerate() {
         *place = reserve(

@@ -24,7 +24,8 @@ fn fill_spans(
     requires least { length least.old ≡ length premiums.now }
     requires greatest { length greatest.old ≡ length premiums.now }
     requires premiums { AllBetween (pos 0) (pos limit) premiums.now }
-    ensures { SpansAt (transition_table tables.now.basis) (payment_table tables.now.plan) state year premiums.now least.new greatest.new }
+    ensures { SpansAt (transition_table tables.now.basis) (payment_table tables.now.plan)
+        state year premiums.now least.new greatest.new }
 {
     for (k, entry) in premiums.iter().enumerate() {
         let ends = span(&tables.basis, &tables.plan, premium(*entry), state, year);
