@@ -1,7 +1,8 @@
--- The columns that C hands in: which are fit, the contract that they stand for, and why no tables are made of others. Assumes nothing.
-use Rattle.std.specs.Prelude.{◌≡◌, ℕ, List, map, ℤ, unsigned_abs}
-use Rattle.units.specs.declared.failure.Failure.{Failure}
-use Rattle.units.specs.declared.failure.Failure.TheVariants.{Refused, NoMemory}
+-- The columns that C hands in: which are fit, the contract that they stand for, and why no tables
+-- are made of others. Assumes nothing.
+use Rattle.std.specs.Prelude.{◌≡◌, ℕ, ◌≤◌, map, unsigned_abs, Result, IsOk, IsErr}
+use Rattle.std.specs.declared.alloc.AllocError.{AllocError}
+use Rattle.units.specs.declared.fault.Fault.{Fault}
 use Rattle.basis.specs.Transitions.{Transitions}
 use Rattle.basis.specs.TransitionColumns as transitions
 use Rattle.basis.specs.TransitionTables as transition_tables
@@ -11,17 +12,12 @@ use Rattle.plan.specs.PaymentColumns as payments
 use Rattle.plan.specs.PaymentTables as payment_tables
 use Rattle.plan.specs.declared.table.PaymentTable.{PaymentTable}
 use Rattle.c_interface.specs.declared.columns.Columns.{Columns}
-
--- the words of a plan's columns, under names that those of a basis leave free
-abbrev pub FitPlan : ℕ → List ℤ → List ℤ → List ℤ → Type 0
-FitPlan = payments.Fit
-
-abbrev pub HoldsPlan : PaymentTable → ℕ → List ℤ → List ℤ → List ℤ → Type 0
-HoldsPlan = payment_tables.Holds
+use Rattle.c_interface.specs.declared.columns.Tables.{Tables}
 
 -- the basis and the plan of columns that fit
 abbrev pub basis_of : Columns → Transitions
-basis_of c = transition_tables.tabled c.states (map unsigned_abs c.factors.now) (map unsigned_abs c.shares.now)
+basis_of c = transition_tables.tabled c.states
+    (map unsigned_abs c.factors.now) (map unsigned_abs c.shares.now)
 
 abbrev pub plan_of : Columns → Payments
 plan_of c = payments.tabled c.plan_years c.benefits.now c.marks.now c.moves.now
@@ -37,21 +33,20 @@ pub record Made (c : Columns) (s : TransitionTable) (p : PaymentTable) : Type 0 
   pub basis : transition_tables.transition_table s ≡ basis_of c
   pub plan : payment_tables.payment_table p ≡ plan_of c
 
--- the number by which C is told of a failure
-abbrev pub failure_number : Failure → ℕ
-failure_number (Refused fault) = fault.number
-failure_number NoMemory = 255
+-- the first fault of columns: those of the basis come first
+pub data Refuses (c : Columns) (fault : Fault) : Type 0 where
+  of_basis : transitions.Refuses c.states c.years c.factors.now c.shares.now fault → Refuses c fault
+  of_plan : transitions.Fit c.states c.years c.factors.now c.shares.now
+      → payments.Refuses c.plan_years c.benefits.now c.marks.now c.moves.now fault
+      → Refuses c fault
 
--- why no basis, and why no plan, is made of columns
-abbrev pub StopsBasis : Columns → Failure → Type 0
-StopsBasis c (Refused fault) = transitions.Refuses c.states c.years c.factors.now c.shares.now fault
-StopsBasis c NoMemory = Unit {0}
+-- what it comes to that memory is asked for both tables
+abbrev pub Asked : Type 0
+Asked = Result Tables AllocError
 
-abbrev pub StopsPlan : Columns → Failure → Type 0
-StopsPlan c (Refused fault) = payments.Refuses c.plan_years c.benefits.now c.marks.now c.moves.now fault
-StopsPlan c NoMemory = Unit {0}
-
--- the number that tells why no tables are made of columns: the basis comes first
-pub data Stops (c : Columns) (number : ℕ) : Type 0 where
-  no_basis : (failure : Failure) → number ≡ failure_number failure → StopsBasis c failure → Stops c number
-  no_plan : (failure : Failure) → number ≡ failure_number failure → transitions.Fit c.states c.years c.factors.now c.shares.now → StopsPlan c failure → Stops c number
+-- the number that tells why no tables are made of columns: 255 where memory is wanting, and only
+-- there; or else that of a fault, from 9 to 12
+pub data Stops (asked : Asked) (c : Columns) (number : ℕ) : Type 0 where
+  no_memory : IsErr asked → number ≡ 255 → Stops asked c number
+  refused : (fault : Fault) → IsOk asked → number ≡ fault.number → 9 ≤ number → number ≤ 12
+      → Refuses c fault → Stops asked c number

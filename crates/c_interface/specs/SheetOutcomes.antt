@@ -11,10 +11,17 @@ use Rattle.c_interface.specs.declared.sheets.SheetReport.{SheetReport}
 
 -- the numbers of a sheet, and a spot
 abbrev pub report_at : ℕ → ℕ → Spot → SheetReport
-report_at states years spot = record { states = states; years = years; line = spot.line; offset = spot.offset }
+report_at states years spot = record {
+  states = states;
+  years = years;
+  line = spot.line;
+  offset = spot.offset;
+}
 
-module _ (bytes : List ℕ) (factors shares new_factors new_shares : List ℤ) (report new_report : SheetReport) (answer : ℕ) where
-  -- the bytes are the sheet and the rest: the columns hold its basis, and told are its numbers and where the rest begins
+module _ (bytes : List ℕ) (factors shares new_factors new_shares : List ℤ)
+    (report new_report : SheetReport) (answer : ℕ) where
+  -- the bytes are the sheet and the rest: the columns hold its basis, and told are its numbers and
+  -- where the rest begins
   pub record IsSheetRead (s : Sheet) (rest : List ℕ) : Type 0 where
     pub done : answer ≡ 0
     pub sheet : IsSheet (lengths factors shares) bytes s rest
@@ -22,7 +29,8 @@ module _ (bytes : List ℕ) (factors shares new_factors new_shares : List ℤ) (
     pub shares_filled : new_shares ≡ filled s.shares shares
     pub told : new_report ≡ report_at s.states s.years (spot_past (text_of (basis_of s)))
 
-  -- the bytes are refused with the fault: its number, line and offset are told, and all else is as it was
+  -- the bytes are refused with the fault: its number, line and offset are told, and all else is as
+  -- it was
   pub record IsSheetRefused (fault : Fault) : Type 0 where
     pub refuses : Refuses (lengths factors shares) bytes fault
     pub least : 2 ≤ answer

@@ -1,14 +1,13 @@
 // The columns that C hands in, and the tables that are made of them.
-ghost use Rattle.std.specs.Prelude.{◌≡◌, MatchResult};
-ghost use Rattle.basis.specs.TransitionColumns.{Fit};
-ghost use Rattle.basis.specs.TransitionTables.{Holds};
-ghost use Rattle.c_interface.specs.Columns.{FitPlan, HoldsPlan, StopsBasis, StopsPlan, Stops, Made, failure_number};
+ghost use Rattle.std.specs.Prelude.{◌≤◌, IsOk, IfErr, MatchResult};
+ghost use Rattle.c_interface.specs.Columns.{Made, Refuses, Stops};
 
 use basis::table::TransitionTable;
 use plan::table::PaymentTable;
-use std::alloc::Global;
-use units::failure::Failure;
+use std::alloc::{AllocError, Global};
+use units::fault::Fault;
 
+// No rule has this number.
 const NO_MEMORY: u8 = 255;
 
 // A basis and a plan as they are handed in. A slice is a pointer and a length.
@@ -32,44 +31,46 @@ pub(crate) struct Tables {
     pub(crate) plan: PaymentTable,
 }
 
-fn number_of(failure: Failure) -> u8
-    ensures { result ≡ failure_number failure }
-{
-    match failure {
-        Failure::Refused(fault) => fault.number,
-        Failure::NoMemory => NO_MEMORY,
+impl Tables {
+    // All the memory that an export asks for. It sees nothing that is handed in, so whether there
+    // is memory cannot hang on that.
+    pub(crate) fn new(heap: Global) -> Result<Tables, AllocError> {
+        Ok(Tables {
+            basis: TransitionTable::new(heap)?,
+            plan: PaymentTable::new(heap)?,
+        })
+    }
+
+    // Both tables of the columns, or the first fault, of the basis before the plan. It wants no
+    // memory.
+    fn take_in(&mut self, columns: &Columns) -> Result<(), Fault>
+        ensures outcome { MatchResult result (λ _. Made columns.now self.new.basis self.new.plan)
+            (λ fault. Refuses columns.now fault) }
+        ensures numbers { IfErr result (λ fault. 9 ≤ fault.number × fault.number ≤ 12) }
+    {
+        let (states, years) = (columns.states, columns.years);
+        self.basis
+            .take_in(states, years, columns.factors, columns.shares)?;
+        let plan_years = columns.plan_years;
+        self.plan
+            .take_in(plan_years, columns.benefits, columns.marks, columns.moves)?;
+        Ok(())
     }
 }
 
 impl Columns<'_> {
-    fn basis(&self, heap: Global) -> Result<TransitionTable, Failure>
-        ensures { MatchResult result (λ s. Fit self.now.states self.now.years self.now.factors.now self.now.shares.now × Holds s self.now.states self.now.factors.now self.now.shares.now) (λ failure. StopsBasis self.now failure) }
+    // Both tables, where there was memory for them, or the number that tells why they are not made.
+    pub(crate) fn tables(&self, asked: Result<Tables, AllocError>) -> Result<Tables, u8>
+        ensures { MatchResult result
+            (λ tables. IsOk asked × Made self.now tables.basis tables.plan)
+            (λ number. Stops asked self.now number) }
     {
-        let mut table = TransitionTable::new(heap)?;
-        table.take_in(self.states, self.years, self.factors, self.shares)?;
-        Ok(table)
-    }
-
-    fn plan(&self, heap: Global) -> Result<PaymentTable, Failure>
-        ensures { MatchResult result (λ s. FitPlan self.now.plan_years self.now.benefits.now self.now.marks.now self.now.moves.now × HoldsPlan s self.now.plan_years self.now.benefits.now self.now.marks.now self.now.moves.now) (λ failure. StopsPlan self.now failure) }
-    {
-        let mut table = PaymentTable::new(heap)?;
-        table.take_in(self.plan_years, self.benefits, self.marks, self.moves)?;
-        Ok(table)
-    }
-
-    // Both tables, or the number that tells why they are not made.
-    pub(crate) fn tables(&self, heap: Global) -> Result<Tables, u8>
-        ensures { MatchResult result (λ tables. Made self.now tables.basis tables.plan) (λ number. Stops self.now number) }
-    {
-        let basis = match self.basis(heap) {
-            Ok(basis) => basis,
-            Err(failure) => return Err(number_of(failure)),
+        let Ok(mut tables) = asked else {
+            return Err(NO_MEMORY);
         };
-        let plan = match self.plan(heap) {
-            Ok(plan) => plan,
-            Err(failure) => return Err(number_of(failure)),
-        };
-        Ok(Tables { basis, plan })
+        match tables.take_in(self) {
+            Ok(()) => Ok(tables),
+            Err(fault) => Err(fault.number),
+        }
     }
 }

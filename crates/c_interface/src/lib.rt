@@ -1,6 +1,7 @@
-// The engine for callers in C: each export takes columns, makes tables of them and calls the library, but for the one that reads a
-// sheet into columns. A call answers 0 where it is done. Otherwise it answers the number of a rule, or one of those that stand for no
-// rule, and writes nothing but where a sheet is at fault.
+// The engine for callers in C: each export takes columns, makes tables of them and calls the
+// library, but for the one that reads a sheet into columns. A call answers 0 where it is done.
+// Otherwise it answers the number of a rule, or one of those that stand for no rule, and writes
+// nothing but where a sheet is at fault. The calls stand for C in `fineochre.h`.
 #![tactic(auto)]
 
 ghost use Rattle.std.specs.Prelude.{◌≡◌, ◌↔◌, IsTrue, pos};

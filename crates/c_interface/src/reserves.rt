@@ -4,18 +4,20 @@ ghost use Rattle.units.specs.Columns.{AllBetween};
 ghost use Rattle.units.specs.Ranges.{limit};
 ghost use Rattle.basis.specs.TransitionTables.{transition_table};
 ghost use Rattle.plan.specs.PaymentTables.{payment_table};
+ghost use Rattle.c_interface.specs.Columns.{Asked};
 ghost use Rattle.c_interface.specs.Outcomes.{Reserves, ReservesAt};
 
 use crate::columns::{Columns, Tables};
 use crate::{DONE, UNFIT_PLACES, UNFIT_PREMIUM, all_premiums, premium};
-use std::alloc::Global;
+use std::alloc::{AllocError, Global};
 use valuation::reserve::reserve;
 
 // Writes at each place the reserve in a state and a year at the premium of that place.
 fn fill_reserves(tables: &Tables, state: usize, year: usize, premiums: &[i64], reserves: &mut [i64])
     requires places { length reserves.old ≡ length premiums.now }
     requires premiums { AllBetween (pos 0) (pos limit) premiums.now }
-    ensures { ReservesAt (transition_table tables.now.basis) (payment_table tables.now.plan) state year premiums.now reserves.new }
+    ensures { ReservesAt (transition_table tables.now.basis) (payment_table tables.now.plan)
+        state year premiums.now reserves.new }
 {
     for (k, place) in reserves.iter_mut().enumerate() {
         *place = reserve(
@@ -25,6 +27,32 @@ fn fill_reserves(tables: &Tables, state: usize, year: usize, premiums: &[i64], r
             state,
             year,
         );
+    }
+}
+
+// What the export answers, by what it comes to that memory is asked for.
+fn answer_reserves(
+    asked: Result<Tables, AllocError>,
+    columns: &Columns,
+    state: usize,
+    year: usize,
+    premiums: &[i64],
+    reserves: &mut [i64],
+) -> u8
+    ensures { Reserves asked columns.now state year premiums.now reserves.old reserves.new result }
+{
+    if reserves.len() != premiums.len() {
+        return UNFIT_PLACES;
+    }
+    if !all_premiums(premiums) {
+        return UNFIT_PREMIUM;
+    }
+    match columns.tables(asked) {
+        Ok(tables) => {
+            fill_reserves(&tables, state, year, premiums, reserves);
+            DONE
+        }
+        Err(number) => number,
     }
 }
 
@@ -38,19 +66,8 @@ pub extern "C" fn fineochre_reserves(
     premiums: &[i64],
     reserves: &mut [i64],
 ) -> u8
-    ensures { Reserves columns.now state year premiums.now reserves.old reserves.new result }
+    ensures { (asked : Asked) × Reserves asked columns.now
+        state year premiums.now reserves.old reserves.new result }
 {
-    if reserves.len() != premiums.len() {
-        return UNFIT_PLACES;
-    }
-    if !all_premiums(premiums) {
-        return UNFIT_PREMIUM;
-    }
-    match columns.tables(heap) {
-        Ok(tables) => {
-            fill_reserves(&tables, state, year, premiums, reserves);
-            DONE
-        }
-        Err(number) => number,
-    }
+    answer_reserves(Tables::new(heap), columns, state, year, premiums, reserves)
 }

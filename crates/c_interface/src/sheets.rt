@@ -10,7 +10,8 @@ use crate::DONE;
 use sheet::read::read;
 use units::fault::Place;
 
-// What C is told of a sheet: its numbers, and the line and the offset where the rest of the input begins, or where a fault stands.
+// What C is told of a sheet: its numbers, and the line and the offset where the rest of the input
+// begins, or where a fault stands.
 #[derive(Clone, Copy)]
 #[repr(C)]
 pub struct SheetReport {
@@ -20,8 +21,8 @@ pub struct SheetReport {
     pub offset: usize,
 }
 
-// Reads a sheet at the head of the bytes into the first places of the columns. A refusal leaves them as they were, and in the report
-// the states and years too.
+// Reads a sheet at the head of the bytes into the first places of the columns. A refusal leaves
+// them as they were, and in the report the states and years too.
 #[unsafe(no_mangle)]
 pub extern "C" fn fineochre_read_sheet(
     bytes: &[u8],
@@ -29,9 +30,16 @@ pub extern "C" fn fineochre_read_sheet(
     shares: &mut [i64],
     report: &mut SheetReport,
 ) -> u8
-    ensures answer { SheetOutcome bytes.now factors.old shares.old factors.new shares.new report.old report.new result }
-    ensures every_sheet { (s : Sheet) (rest : List ℕ) → IsSheet (lengths factors.old shares.old) bytes.now s rest → IsSheetRead bytes.now factors.old shares.old factors.new shares.new report.old report.new result s rest }
-    ensures every_fault { (fault : Fault) → Refuses (lengths factors.old shares.old) bytes.now fault → IsSheetRefused bytes.now factors.old shares.old factors.new shares.new report.old report.new result fault }
+    ensures answer { SheetOutcome bytes.now factors.old shares.old
+        factors.new shares.new report.old report.new result }
+    ensures every_sheet { (s : Sheet) (rest : List ℕ)
+        → IsSheet (lengths factors.old shares.old) bytes.now s rest
+        → IsSheetRead bytes.now factors.old shares.old
+        factors.new shares.new report.old report.new result s rest }
+    ensures every_fault { (fault : Fault)
+        → Refuses (lengths factors.old shares.old) bytes.now fault
+        → IsSheetRefused bytes.now factors.old shares.old
+        factors.new shares.new report.old report.new result fault }
 {
     match read(bytes, factors, shares) {
         Ok(reading) => {

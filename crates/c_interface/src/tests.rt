@@ -1,5 +1,5 @@
-// The exports on a case worked by hand: two years, a tenth and a fifth die, a factor of nine tenths, an endowment of 1,000,000 ticks
-// over both years with the premium due in both.
+// The exports on a case worked by hand: two years, a tenth and a fifth die, a factor of nine
+// tenths, an endowment of 1,000,000 ticks over both years with the premium due in both.
 use crate::columns::Columns;
 use crate::courses::fineochre_course;
 use crate::premiums::fineochre_premiums;

@@ -1,6 +1,6 @@
 use Rattle.std.proofs.Common.{rules, refl}
 use Rattle.c_interface.specs.Outcomes.{no_tables}
-use Rattle.c_interface.proofs.reserves.fineochre_reserves.Goals as goal
+use Rattle.c_interface.proofs.reserves.answer_reserves.Goals as goal
 
 pub returns-in-Err : goal.returns-in-Err
 returns-in-Err c = no_tables (search rules) (search rules) c.in-Err.ensures refl
