@@ -23,7 +23,8 @@ fn write_spaces(out: &mut String, count: usize) -> Result<(), AllocError>
 
 // Writes a text so that it ends so many places on, and whole where it is longer.
 pub(crate) fn write_at_right(out: &mut String, width: usize, text: &str) -> Result<(), AllocError>
-    ensures { OnOk result (string_bytes out.new ≡ string_bytes out.old ++ at_right width text.now) }
+    ensures { OnOk result
+        (string_bytes out.new ≡ string_bytes out.old ++ at_right width text.now) }
 {
     write_spaces(out, width.saturating_sub(text.len()))?;
     write_text(out, text)

@@ -18,9 +18,9 @@ module _ (Answers : List ℕ → List ℕ → Type 0) (room : ℕ) (before after
     whole bytes text None left read answers = tt
     whole bytes text (Some input) None read answers = absurd read.consumed
     whole bytes text (Some input) (Some left) read answers = elim (cases_lt (length bytes) room) [
-        inl fewer ↦ subst (λ xs. Answers xs text) (sym (read.consumed ∙ (ap (λ xs. bytes ++ xs) (read.end fewer) ∙ append-nil bytes))) answers
-        | inr full ↦ (let sum = ap length read.consumed ∙ length-append bytes left in longer bytes input text full (omega (arith, full, sum)) answers)
-      ]
+      | inl fewer ↦ subst (λ xs. Answers xs text) (sym (read.consumed ∙ (ap (λ xs. bytes ++ xs) (read.end fewer) ∙ append-nil bytes))) answers
+      | inr full ↦ (let sum = ap length read.consumed ∙ length-append bytes left in longer bytes input text full (omega (arith, full, sum)) answers)
+    ]
 
     -- where inputs that fill the room have the answers of what is read of them
     answered : (bytes text : List ℕ) → IsRead room before after bytes → Answers bytes text → IsAnswered Answers room before after text

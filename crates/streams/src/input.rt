@@ -23,8 +23,10 @@ fn read_once<R: Read>(reader: &mut R, buffer: &mut [u8]) -> io::Result<Option<us
 pub fn read_up_to<R: Read>(reader: &mut R, buffer: &mut [u8]) -> io::Result<usize>
     ensures length { length buffer.new ≡ length buffer.old }
     ensures read { MatchResult result
-        (λ n. IsRead (length buffer.new) (R.remaining reader.old) (R.remaining reader.new) (take n buffer.new) × (n ≤ length buffer.new))
-        (λ _. IsReadInPart (length buffer.new) (R.remaining reader.old) (R.remaining reader.new)) }
+        (λ n. IsRead (length buffer.new) (R.remaining reader.old) (R.remaining reader.new)
+        (take n buffer.new) × (n ≤ length buffer.new))
+        (λ _. IsReadInPart (length buffer.new) (R.remaining reader.old)
+        (R.remaining reader.new)) }
 {
     let mut filled = 0;
     for _ in 0..u64::MAX {
