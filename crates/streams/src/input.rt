@@ -2,20 +2,15 @@
 ghost use Rattle.std.specs.Prelude.{◌≡◌, ◌≤◌, length, take, MatchResult};
 ghost use Rattle.streams.specs.Streams.{IsRead, IsReadInPart, ReadsOnce};
 
+use crate::step::step;
 use std::io;
 use std::io::{ErrorKind, Read};
 
-// One read into a buffer that has room: how many bytes came, or `None` at the end. An interrupted
-// read gives none.
+// One read into a buffer that has room: how many bytes came, or `None` at the end.
 fn read_once<R: Read>(reader: &mut R, buffer: &mut [u8]) -> io::Result<Option<usize>>
     ensures { ReadsOnce (R.remaining reader.old) (R.remaining reader.new) buffer.new result }
 {
-    match reader.read(buffer) {
-        Ok(0) => Ok(None),
-        Ok(count) => Ok(Some(count)),
-        Err(error) if error.kind() == ErrorKind::Interrupted => Ok(Some(0)),
-        Err(error) => Err(error),
-    }
+    step(reader.read(buffer))
 }
 
 // Fills the buffer from its front until it is full or the reader is at its end, and answers how

@@ -3,5 +3,6 @@
 
 pub mod input;
 pub mod output;
+mod step;
 #[cfg(test)]
 mod tests;

@@ -3,19 +3,18 @@ ghost use Rattle.std.specs.Prelude.{◌≡◌, MatchResult};
 ghost use Rattle.std.specs.Io.KnownBytes.{Appends};
 ghost use Rattle.streams.specs.Streams.{IsWrittenInPart, WritesOnce};
 
+use crate::step::step;
 use std::io;
 use std::io::{ErrorKind, Write};
 
-// One write of bytes, of which there are some: how many were taken. An interrupted write takes
-// none.
+// One write of bytes, of which there are some: how many were taken. A writer that takes none has
+// failed.
 fn write_once<W: Write>(writer: &mut W, bytes: &[u8]) -> io::Result<usize>
     ensures { WritesOnce (W.contents writer.old) (W.contents writer.new) bytes.now result }
 {
-    match writer.write(bytes) {
-        Ok(0) => Err(io::Error::from(ErrorKind::WriteZero)),
-        Ok(count) => Ok(count),
-        Err(error) if error.kind() == ErrorKind::Interrupted => Ok(0),
-        Err(error) => Err(error),
+    match step(writer.write(bytes))? {
+        Some(count) => Ok(count),
+        None => Err(io::Error::from(ErrorKind::WriteZero)),
     }
 }
 

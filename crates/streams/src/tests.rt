@@ -46,10 +46,11 @@ impl Read for Slow<'_> {
 }
 
 // Takes two bytes at a time and is interrupted before each two, until it is full: then it fails
-// with an error, or takes none.
+// with an error, or takes none, and cannot be flushed.
 #[derive(Drop)]
 struct Narrow {
     taken: Vec<u8>,
+    flushed: usize,
     room: usize,
     interrupted: bool,
     broken: bool,
@@ -74,13 +75,19 @@ impl Write for Narrow {
     }
 
     fn flush(&mut self) -> io::Result<()> {
-        Ok(())
+        self.flushed = self.taken.len();
+        if self.taken.len() < self.room {
+            Ok(())
+        } else {
+            Err(io::Error::from(ErrorKind::StorageFull))
+        }
     }
 }
 
 fn writer_of(rt: &HostRuntime, room: usize, broken: bool) -> Narrow {
     Narrow {
         taken: Vec::new(rt.alloc()),
+        flushed: 0,
         room,
         interrupted: false,
         broken,
@@ -119,7 +126,16 @@ fn writes_on_after_short_writes(rt: HostRuntime) -> Result<(), Fail> {
     let mut writer = writer_of(&rt, 8, true);
     write_whole(&mut writer, b"abcde")?;
     assert_eq!(rt; writer.taken.as_slice(), b"abcde".as_slice());
+    assert_eq!(rt; writer.flushed, 5);
     Ok(())
+}
+
+#[test]
+fn a_failed_flush_ends_in_its_error(rt: HostRuntime) {
+    let mut writer = writer_of(&rt, 5, true);
+    let outcome = write_whole(&mut writer, b"abcde").map_err(|error| error.kind());
+    assert_eq!(rt; outcome, Err(ErrorKind::StorageFull));
+    assert_eq!(rt; writer.taken.as_slice(), b"abcde".as_slice());
 }
 
 #[test]

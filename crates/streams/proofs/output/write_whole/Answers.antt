@@ -1,4 +1,4 @@
-use Rattle.std.proofs.Common.{◌≡◌, ◌+◌, ◌-◌, ◌≤◌, rules, List, ℕ, length, drop, take, sym, subst, ◌∙◌, arith}
+use Rattle.std.proofs.Common.{◌-◌, ◌≤◌, rules, List, ℕ, length, drop, take, subst}
 use Rattle.std.specs.Io.KnownBytes.{Appends}
 use Rattle.streams.proofs.Chains.{appends_then, written_on}
 use Rattle.streams.proofs.output.write_whole.Goals as goal
