@@ -30,7 +30,8 @@ pub fn write_whole<W: Write>(writer: &mut W, bytes: &[u8]) -> io::Result<()>
         if written == bytes.len() {
             return writer.flush();
         }
-        written += write_once(writer, &bytes[written..])?;
+        let count = write_once(writer, &bytes[written..])?;
+        written += count;
     }
     Err(io::Error::from(ErrorKind::Interrupted))
 }
