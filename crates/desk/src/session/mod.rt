@@ -8,12 +8,13 @@ mod lines;
 #[cfg(test)]
 mod tests;
 
-use crate::reply::{MOST_REPLY_BYTES, Reply, write_reply};
+use crate::reply::MOST_REPLY_BYTES;
 use basis::table::TransitionTable;
 use lines::{answer_commands, write_refusal};
 use sheet::spot::Spot;
 use sheet::table::read_into;
 use std::alloc::{AllocError, Global};
+use units::rule::Rule;
 
 // The most bytes of an input.
 pub const MOST_BYTES: usize = 60_000;
@@ -33,18 +34,14 @@ fn write_answer(basis: &mut TransitionTable, bytes: &[u8], out: &mut String)
     ensures answer { IsAnswer bytes.now (string_bytes out.new) }
     ensures room { string_capacity out.old ≤ string_capacity out.new }
 {
+    let start = Spot { line: 1, offset: 0 };
     out.clear();
     if bytes.len() > MOST_BYTES {
-        let reply = Reply::Refused {
-            number: 1,
-            line: 1,
-            offset: 0,
-        };
-        return write_reply(out, reply);
+        return write_refusal(out, start, start.fault(Rule::Input));
     }
     match read_into(basis, bytes) {
         Ok(rest) => answer_commands(basis, rest, out),
-        Err(fault) => write_refusal(out, Spot { line: 1, offset: 0 }, fault),
+        Err(fault) => write_refusal(out, start, fault),
     }
 }
 
