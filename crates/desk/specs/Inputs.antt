@@ -6,12 +6,10 @@ use Rattle.sheet.specs.Lines.{start}
 use Rattle.sheet.specs.Sheets.{Sheet, IsSheet, basis_of}
 use Rattle.sheet.specs.Taken.{most}
 use Rattle.sheet.specs.Texts.{text_of}
+use Rattle.streams.specs.Streams.{most_bytes}
 use Rattle.desk.specs.Replies.{most_reply_bytes, reply_text}
 use Rattle.desk.specs.Sessions.{Session, told_at}
 use Rattle.desk.specs.declared.reply.Reply.TheVariants as says
-
-abbrev pub most_bytes : ℕ
-most_bytes = 60000
 
 -- no answer has more bytes: each line of an input has one at least, and is answered by one reply
 abbrev pub most_text_bytes : ℕ

@@ -1,5 +1,5 @@
 -- The lines that the desk answers. Assumes nothing.
-use Rattle.std.specs.Prelude.{ℕ, List, [], ◌∷◌, ◌++◌, codes, decimal, flat_map}
+use Rattle.std.specs.Prelude.{ℕ, List, [], ◌∷◌, ◌++◌, codes, decimal, flat_map, ℤ}
 use Rattle.std.specs.Fmt.{signed_decimal}
 use Rattle.desk.specs.declared.reply.Reply.{Reply}
 use Rattle.desk.specs.declared.reply.Reply.TheVariants.{Issued, Closed, Altered, Left, Refused}
@@ -7,6 +7,11 @@ use Rattle.desk.specs.declared.reply.Reply.TheVariants.{Issued, Closed, Altered,
 -- each field after a semicolon
 abbrev pub fields : List (List ℕ) → List ℕ
 fields fs = flat_map (λ f. 59 ∷ f) fs
+
+-- three amounts, each with a minus where it is below nought
+abbrev pub amounts : ℤ → ℤ → ℤ → List ℕ
+amounts first second third =
+    fields (signed_decimal first ∷ signed_decimal second ∷ signed_decimal third ∷ [])
 
 -- a word, and then fields
 abbrev pub semicolons : List ℕ → List (List ℕ) → List ℕ

@@ -47,7 +47,8 @@ module _ (c : Transitions) where
   -- is
   pub data Does (spot : Spot) : Option Ledger → Command → Reply → Option Ledger → Type 0 where
     issues :
-        {s k g d p : ℕ} → AreTerms c (terms_issued s k g d p) → IsPriced c (terms_issued s k g d p) →
+        {s k g d p : ℕ} →
+        AreTerms c (terms_issued s k g d p) → IsPriced c (terms_issued s k g d p) →
         Does spot None (issue s k g d) (issue_told (terms_issued s k g d p))
         (Some (issued c (terms_issued s k g d p)))
     issues_none :

@@ -1,17 +1,18 @@
 -- The page of a sheet that was read into a table. Assumes nothing.
-use Rattle.std.proofs.Common.{◌≡◌, ◌++◌, ℕ, ◌+◌, ◌≤◌, List, [], length, pos, ap, subst, ◌∙◌, arith}
+use Rattle.std.proofs.Common.{◌≡◌, ◌++◌, ℕ, ◌≤◌, List, [], length, pos, ap, subst, ◌∙◌, arith}
 use Rattle.std.proofs.lemmas.Int.{ints}
 use Rattle.units.specs.declared.fault.Fault.{Fault}
 use Rattle.basis.specs.Transitions.{Transitions}
 use Rattle.plan.specs.Endowments.{Holds, endows, endowment}
 use Rattle.plan.specs.declared.endowment.Endowment.{Endowment}
 use Rattle.valuation.specs.Premiums.{LeastPremium, NoPremium}
-use Rattle.sheet_reserves.specs.Outcomes.{IsPage, most_bytes}
+use Rattle.streams.specs.Streams.{most_read}
+use Rattle.sheet_reserves.specs.Outcomes.{IsPage}
 use Rattle.sheet_reserves.specs.Pages.{heading, opening, page, plan_over, rows}
 use Rattle.sheet_reserves.proofs.Cells.{behind}
 
 -- longer inputs have no page
-pub longer : (bytes input text : List ℕ) → most_bytes + 1 ≤ length bytes → most_bytes + 1 ≤ length input → IsPage bytes text → IsPage input text
+pub longer : (bytes input text : List ℕ) → most_read ≤ length bytes → most_read ≤ length input → IsPage bytes text → IsPage input text
 longer bytes input text full long is = let short = is.fits in absurd (omega (arith, short, full))
 
 module _ (c t : Transitions) (same : t ≡ c) (plan : Endowment) (years : ℕ) (holds : Holds plan (pos 10000000) years years) (all : years ≡ t.years) where

@@ -11,10 +11,8 @@ use Rattle.valuation.specs.Premiums.{LeastPremium, NoPremium}
 use Rattle.sheet.specs.Faults.{Refuses}
 use Rattle.sheet.specs.Sheets.{Sheet, IsSheet, basis_of}
 use Rattle.sheet.specs.Taken.{most}
+use Rattle.streams.specs.Streams.{most_bytes}
 use Rattle.sheet_reserves.specs.Pages.{page, plan_over}
-
-abbrev pub most_bytes : ℕ
-most_bytes = 60000
 
 -- the bytes are a sheet and a rest, and the text is the page at the least premium with which the
 -- reserve at the start in state 0 is not above nought
@@ -30,9 +28,12 @@ pub record IsPage (bytes text : List ℕ) : Type 0 where
 -- the bytes are too long, or no sheet, or no premium will do
 pub data IsRefused (bytes : List ℕ) : Fault → Type 0 where
   too_long : most_bytes < length bytes → IsRefused bytes (text_fault 1 Whole 1 0)
-  no_sheet : {fault : Fault} → length bytes ≤ most_bytes → Refuses most bytes fault → IsRefused bytes fault
+  no_sheet :
+      {fault : Fault} →
+      length bytes ≤ most_bytes → Refuses most bytes fault → IsRefused bytes fault
   no_premium :
-      {s : Sheet} {rest : List ℕ} {fault : Fault} → length bytes ≤ most_bytes → IsSheet most bytes s rest →
+      {s : Sheet} {rest : List ℕ} {fault : Fault} →
+      length bytes ≤ most_bytes → IsSheet most bytes s rest →
       NoPremium (basis_of s) (plan_over (basis_of s)) 0 0 (pos 0) fault → IsRefused bytes fault
 
 module _ {Z : Type 0} where

@@ -18,7 +18,8 @@ at_right width text = replicate (width - length text) 32 ++ text
 -- the first line, and an empty one
 abbrev pub opening : ℕ → ℕ → List ℕ
 opening years premium =
-    codes "Endowment of 1000 francs over " ++ (decimal years ++ (codes " years, yearly premium of " ++ (francs (pos premium) ++ codes " francs\n\n")))
+    codes "Endowment of 1000 francs over " ++ (decimal years
+    ++ (codes " years, yearly premium of " ++ (francs (pos premium) ++ codes " francs\n\n")))
 
 -- a column for the year, and one for each state
 abbrev pub state_heading : ℕ → List ℕ
@@ -33,7 +34,8 @@ entry c p premium year state = at_right 12 (francs (reserve c p premium state ye
 
 abbrev pub row : Transitions → Payments → ℕ → ℕ → List ℕ
 row c p premium year =
-    at_right 4 (decimal year) ++ (flat_map (entry c p premium year) (range_with_len 0 c.states) ++ codes "\n")
+    at_right 4 (decimal year)
+    ++ (flat_map (entry c p premium year) (range_with_len 0 c.states) ++ codes "\n")
 
 -- the years up to the end of the last one
 abbrev pub rows : Transitions → Payments → ℕ → List ℕ

@@ -13,15 +13,13 @@ use plan::endowment::Endowment;
 use sheet::spot::Spot;
 use sheet::table::read_into;
 use std::alloc::{AllocError, Global};
+use streams::input::MOST_BYTES;
 use units::failure::Failure;
 use units::francs::Francs;
 use units::premium::Premium;
 use units::rule::Rule;
 use valuation::pricing::least_premium;
 use valuation::reserve::reserve;
-
-// The most bytes of an input.
-pub(crate) const MOST_BYTES: usize = 60_000;
 
 // The sum insured, 1000 francs.
 const SUM: i64 = 10_000_000;

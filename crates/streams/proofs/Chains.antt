@@ -1,6 +1,6 @@
 -- Reads and writes one after another. Assumes nothing.
 use Rattle.std.proofs.Common.{◌≡◌, ◌++◌, List, [], ℕ, ◌+◌, ◌-◌, ◌≤◌, length, take, drop, Option, None, Some, refl, sym, ap, ◌∙◌, arith}
-use Rattle.std.proofs.Math.Seq.{take-add, take-append-add}
+use Rattle.std.proofs.Math.Seq.{take-add, take-append-add, take-append_seam}
 use Rattle.std.proofs.lemmas.List.{append-nil, append_assoc, take-take, length-append, length-drop, length-take, length-take-le}
 use Rattle.std.proofs.lemmas.Slice.{take-put_mid}
 use borrow.Rule.Slice.PartMut.{put_mid, post_of}
@@ -61,3 +61,8 @@ pub written_on : (a n : ℕ) (xs : List ℕ) → a ≤ length xs → n ≤ lengt
 written_on a n xs inside few =
     let short : n ≤ length xs - a = omega (arith, few, length-take (length xs - a) (drop a xs)) in
     (omega (arith, short, inside), ap (λ ys. take a xs ++ ys) (take-take n (length xs - a) (drop a xs) short) ∙ sym (take-add a n xs))
+
+-- what is kept of a vector whose buffer was read into
+pub front_kept : (count len : ℕ) (buffer rest kept : List ℕ) → len ≡ length buffer → kept ≡ take count (take len (buffer ++ rest)) → kept ≡ take count buffer
+front_kept count len buffer rest kept whole is =
+    is ∙ ap (take count) (ap (λ n. take n (buffer ++ rest)) whole ∙ take-append_seam buffer rest)

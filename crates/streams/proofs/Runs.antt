@@ -1,6 +1,5 @@
 -- Runs, by what they read and wrote. Assumes nothing.
-use Rattle.std.proofs.Common.{◌≡◌, ◌++◌, ℕ, ◌≤◌, List, length, take, Option, None, Some, IfSome, Result, Ok, Err, MatchResult, inl, inr, refl, sym, subst, ap, ◌∙◌, arith}
-use Rattle.std.proofs.Math.Seq.{take-append_seam}
+use Rattle.std.proofs.Common.{◌++◌, ℕ, ◌≤◌, List, length, Option, None, Some, IfSome, Result, Ok, Err, MatchResult, inl, inr, refl, sym, subst, ap, ◌∙◌, arith}
 use Rattle.std.proofs.lemmas.Bool.{cases_lt}
 use Rattle.std.proofs.lemmas.List.{append-nil, length-append}
 use Rattle.std.specs.Io.KnownBytes.{Appends, Keeps}
@@ -23,14 +22,8 @@ module _ (Answers : List ℕ → List ℕ → Type 0) (room : ℕ) (before after
     ]
 
     -- where inputs that fill the room have the answers of what is read of them
-    answered : (bytes text : List ℕ) → IsRead room before after bytes → Answers bytes text → IsAnswered Answers room before after text
+    pub answered : (bytes text : List ℕ) → IsRead room before after bytes → Answers bytes text → IsAnswered Answers room before after text
     answered bytes text read answers = record { bytes = bytes; read = read; answer = answers; whole = whole bytes text before after read answers }
-
-    -- where the front of a buffer is answered, into which they were read
-    pub front_answered : (count len : ℕ) (buffer rest given text : List ℕ) → length buffer ≡ room → len ≡ length buffer → given ≡ take len (buffer ++ rest) → IsRead (length buffer) before after (take count buffer) → Answers (take count given) text → IsAnswered Answers room before after text
-    front_answered count len buffer rest given text full whole_buffer is read answers =
-        let front = is ∙ (ap (λ n. take n (buffer ++ rest)) whole_buffer ∙ take-append_seam buffer rest) in
-        answered (take count buffer) text (subst (λ n. IsRead n before after (take count buffer)) full read) (subst (λ xs. Answers (take count xs) text) front answers)
 
   module _ {E : Type 0} (result : Result Unit E) where
     pub ran : (held holds : Option (List ℕ)) (text : List ℕ) → IsAnswered Answers room before after text → MatchResult result (λ _. Appends held holds text) (λ _. IsWrittenInPart held holds text) → Runs Answers room before after held holds result

@@ -17,4 +17,6 @@ module _ (Answers : List ℕ → List ℕ → Type 0) (room : ℕ) (before after
   -- written, or a front of the answer
   abbrev pub Runs : {E : Type 0} → Option (List ℕ) → Option (List ℕ) → Result Unit E → Type 0
   Runs held holds (Ok _) = (text : List ℕ) × IsAnswered text × Appends held holds text
-  Runs held holds (Err _) = Keeps held holds ⊎ ((text : List ℕ) × IsAnswered text × IsWrittenInPart held holds text)
+  Runs held holds (Err _) =
+      Keeps held holds
+      ⊎ ((text : List ℕ) × IsAnswered text × IsWrittenInPart held holds text)

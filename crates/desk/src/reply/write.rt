@@ -1,7 +1,6 @@
 // Writing replies behind a text that has room for them, which wants no memory.
-ghost use Rattle.std.specs.Prelude.{◌+◌, [], ◌∷◌, length};
-ghost use Rattle.std.specs.Fmt.{signed_decimal};
-ghost use Rattle.desk.specs.Replies.{fields, most_reply_bytes, reply_line, reply_text};
+ghost use Rattle.std.specs.Prelude.{◌+◌, ◌∷◌, length};
+ghost use Rattle.desk.specs.Replies.{amounts, most_reply_bytes, reply_line, reply_text};
 ghost use Rattle.desk.specs.Rooms.{HasRoom, Grows};
 ghost use Rattle.desk.specs.declared.reply.Reply.TheVariants as says;
 
@@ -28,7 +27,7 @@ fn write_field<I: Integer>(out: &mut String, number: I)
 // Writes three amounts, each after a semicolon.
 fn write_amounts(out: &mut String, first: i64, second: i64, third: i64)
     requires { HasRoom out.old 63 }
-    ensures { Grows out.old out.new (fields (signed_decimal first ∷ signed_decimal second ∷ signed_decimal third ∷ [])) 63 }
+    ensures { Grows out.old out.new (amounts first second third) 63 }
 {
     write_field(out, first);
     write_field(out, second);
@@ -52,7 +51,8 @@ fn write_closed(
     reserve: i64,
 )
     requires { HasRoom out.old 95 }
-    ensures { Grows out.old out.new (reply_line (says.Closed number year interest_result risk_result reserve)) 95 }
+    ensures { Grows out.old out.new
+        (reply_line (says.Closed number year interest_result risk_result reserve)) 95 }
 {
     write_text(out, "close");
     write_field(out, number);
@@ -62,7 +62,8 @@ fn write_closed(
 
 fn write_altered(out: &mut String, number: u16, premium: i64, reserve: i64, alteration_result: i64)
     requires { HasRoom out.old 74 }
-    ensures { Grows out.old out.new (reply_line (says.Altered number premium reserve alteration_result)) 74 }
+    ensures { Grows out.old out.new
+        (reply_line (says.Altered number premium reserve alteration_result)) 74 }
 {
     write_text(out, "alter");
     write_field(out, number);

@@ -24,8 +24,9 @@ fn reply_to<'a>(
     held: Option<HeldContract<'a>>,
     line: Part<'_>,
 ) -> (Option<HeldContract<'a>>, Reply)
-    ensures { (kept : Option Ledger) → Keeps basis.now held.entry kept → (then : Option Ledger) ×
-        Replies (transition_table basis.now) kept line.entry.spot (bytes_of line.entry) result.1 then
+    ensures { (kept : Option Ledger) → Keeps basis.now held.entry kept → (then : Option Ledger)
+        × Replies (transition_table basis.now) kept line.entry.spot (bytes_of line.entry)
+        result.1 then
         × Keeps basis.now result.0 then }
 {
     let spot = line.spot();

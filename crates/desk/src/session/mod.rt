@@ -14,10 +14,8 @@ use lines::{answer_commands, write_refusal};
 use sheet::spot::Spot;
 use sheet::table::read_into;
 use std::alloc::{AllocError, Global};
+use streams::input::MOST_BYTES;
 use units::rule::Rule;
-
-// The most bytes of an input.
-pub const MOST_BYTES: usize = 60_000;
 
 // The basis of the sheet that was read last, and the text that was answered last. Each line of an
 // input has a byte at least, and a reply at most.

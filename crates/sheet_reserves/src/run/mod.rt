@@ -1,16 +1,15 @@
 // What is written for what is read.
-ghost use Rattle.std.specs.Prelude.{◌+◌};
 ghost use Rattle.streams.specs.Runs.{Runs};
-ghost use Rattle.streams.specs.Streams.{IsReadInPart};
-ghost use Rattle.sheet_reserves.specs.Outcomes.{IsPage, most_bytes};
+ghost use Rattle.streams.specs.Streams.{IsReadInPart, most_read};
+ghost use Rattle.sheet_reserves.specs.Outcomes.{IsPage};
 
 #[cfg(test)]
 mod tests;
 
-use crate::page::{MOST_BYTES, page_of};
+use crate::page::page_of;
 use std::alloc::Global;
 use std::io::{Read, Write};
-use streams::input::read_up_to;
+use streams::input::read_input;
 use streams::output::write_whole;
 
 // Writes the page for the sheet that a reader gives, and nothing else. It reads no more than a byte
@@ -21,13 +20,12 @@ pub(crate) fn run<R: Read, W: Write>(
     reader: &mut R,
     writer: &mut W,
 ) -> anyhow::Result<()>
-    ensures few { IsReadInPart (most_bytes + 1) (R.remaining reader.old) (R.remaining reader.new) }
-    ensures written { Runs IsPage (most_bytes + 1) (R.remaining reader.old) (R.remaining reader.new)
+    ensures few { IsReadInPart most_read (R.remaining reader.old) (R.remaining reader.new) }
+    ensures written { Runs IsPage most_read (R.remaining reader.old) (R.remaining reader.new)
         (W.contents writer.old) (W.contents writer.new) result }
 {
-    let mut input = vec![in heap; 0; MOST_BYTES + 1]?;
-    let count = read_up_to(reader, &mut input)?;
-    let page = page_of(heap, &input[..count])?;
+    let input = read_input(heap, reader)?;
+    let page = page_of(heap, &input)?;
     write_whole(writer, page.as_bytes())?;
     Ok(())
 }
