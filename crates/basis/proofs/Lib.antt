@@ -1,3 +1,4 @@
 pub mod Rows
 pub mod Taken
 pub mod Chunks
+pub mod Noughts

@@ -1,5 +1,5 @@
 -- What a basis means, and the law that every basis keeps. Assumes nothing.
-use Rattle.std.specs.Prelude.{◌≡◌, ℕ, ◌<◌, ◌≤◌, List, sum_by}
+use Rattle.std.specs.Prelude.{◌≡◌, ℕ, ◌<◌, ◌≤◌, List, map, sum_by}
 use Rattle.std.specs.List.{range_with_len}
 use Rattle.units.specs.Ranges.{million}
 
@@ -13,6 +13,10 @@ pub record Transitions : Type 0 where
 -- the states that can be moved to
 abbrev pub moves : Transitions → List ℕ
 moves c = range_with_len 0 c.states
+
+-- the shares of all moves out of state i in year t
+abbrev pub row : Transitions → ℕ → ℕ → List ℕ
+row c i t = map (λ j. c.share i j t) (moves c)
 
 pub record Lawful (c : Transitions) : Type 0 where
   pub least_states : 2 ≤ c.states

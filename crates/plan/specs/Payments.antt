@@ -1,5 +1,6 @@
 -- What a plan means, and the law that every plan keeps. Assumes nothing.
-use Rattle.std.specs.Prelude.{◌≡◌, ℕ, ◌<◌, ◌≤◌, Bool, false}
+use Rattle.std.specs.Prelude.{◌≡◌, ℕ, ◌<◌, ◌≤◌, Bool, false, List, map}
+use Rattle.std.specs.List.{range_with_len}
 use Rattle.units.specs.Ranges.{limit}
 
 -- `benefit i t` is paid in state i at the start of year t, where `due i t` says whether the premium is due,
@@ -8,6 +9,10 @@ pub record Payments : Type 0 where
   pub benefit : ℕ → ℕ → ℕ
   pub due : ℕ → ℕ → Bool
   pub move_benefit : ℕ → ℕ → ℕ → ℕ
+
+-- what is paid for the moves out of state i in year t to each state that a basis can have
+abbrev pub benefits_of_moves : Payments → ℕ → ℕ → List ℕ
+benefits_of_moves p i t = map (λ j. p.move_benefit i j t) (range_with_len 0 8)
 
 -- no amount is above the limit, and nothing is paid or due in a state above 7 or a year above 120
 pub record InRange (p : Payments) : Type 0 where

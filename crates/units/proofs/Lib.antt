@@ -1,5 +1,6 @@
 pub mod Distances
 pub mod Nearest
+pub mod Places
 pub mod Ranged
 pub mod Sums
 pub mod Whole

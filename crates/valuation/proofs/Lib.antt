@@ -1,4 +1,5 @@
 pub mod Agreement
+pub mod Backwards
 pub mod Closeness
 pub mod Closings
 pub mod CourseColumns
@@ -11,6 +12,7 @@ pub mod Order
 pub mod Plain
 pub mod Premiums
 pub mod Range
+pub mod RowReads
 pub mod Rounded
 pub mod Rows
 pub mod SpanAgreement

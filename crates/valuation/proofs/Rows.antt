@@ -1,7 +1,7 @@
 -- The rows of figures, one after another. Assumes nothing.
-use Rattle.std.proofs.Common.{◌≡◌, ℕ, zero, suc, ◌+◌, ◌-◌, ◌*◌, ◌<◌, ◌≤◌, List, ◌++◌, flat_map, take, drop, length, get_or, sym, ap, ◌∙◌, add-mul, one-mul, zero-mul, suc-mul, not-suc-le-zero, le_of_suc-le-suc, arith}
+use Rattle.std.proofs.Common.{◌≡◌, ℕ, zero, suc, ◌+◌, ◌-◌, ◌*◌, ◌<◌, ◌≤◌, List, ◌++◌, flat_map, take, drop, length, get_or, sym, ap, ◌∙◌, add-mul, one-mul, zero-mul, suc-mul, not-suc-le-zero, le_of_suc-le-suc, append_assoc, arith}
 use Rattle.std.specs.List.{range_with_len}
-use Rattle.std.proofs.lemmas.List.{take_at, take_all, drop-drop, length-drop, length-append, get_or-append-add}
+use Rattle.std.proofs.lemmas.List.{drop_at, length-take-le, length-append, get_or-append-add}
 use Rattle.std.proofs.Math.ListN.{get_or-append}
 use Rattle.std.proofs.lemmas.List.FromFn.{length-map-range_with_len}
 use Rattle.basis.specs.Transitions.{Transitions}
@@ -19,31 +19,28 @@ module _ {F : Type 0} (v : Operations F) (c : Transitions) (p : Payments) (premi
   pub row_length : (t : ℕ) → length (figures_of v c p premium t) ≡ c.states
   row_length t = length-map-range_with_len _ 0 c.states
 
-  pub first_row : (t : ℕ) → t ≤ c.years → take c.states (rows_from v c p premium t) ≡ figures_of v c p premium t
-  first_row t l = ap (take c.states) (rows_split t l) ∙ take_at (figures_of v c p premium t) (rows_from v c p premium (t + 1)) c.states (row_length t)
-
 -- ---- places
 
 -- the row of u years later begins so many places later
 pub rows_apart : (m from years at : ℕ) → from ≤ at → at ≤ years → (years + 1 - from) * m ≡ (at - from) * m + (years + 1 - at) * m
 rows_apart m from years at l h = ap (λ n. n * m) (let apart : years + 1 - from ≡ (at - from) + (years + 1 - at) = omega arith in apart) ∙ add-mul (at - from) (years + 1 - at) m
 
-next_row : (m from at : ℕ) → from < at → (at - 1 - from) * m + m ≡ (at - from) * m
-next_row m from at l = sym (ap (λ n. n * m) (let one : at - from ≡ (at - 1 - from) + 1 = omega arith in one) ∙ add-mul (at - 1 - from) 1 m ∙ ap (λ n. (at - 1 - from) * m + n) (one-mul m))
+pub next_row : (m from at : ℕ) → from ≤ at → (at - from) * m + m ≡ (at + 1 - from) * m
+next_row m from at l =
+    let one : at + 1 - from ≡ at - from + 1 = omega arith in
+    sym (ap (λ n. n * m) one ∙ add-mul (at - from) 1 m ∙ ap (λ n. (at - from) * m + n) (one-mul m))
 
--- what stands from place a on
-rest_is : {X : Type 0} (xs : List X) (a : ℕ) → take (length xs - a) (drop a xs) ≡ drop a xs
-rest_is xs a = take_all (length xs - a) (drop a xs) (omega (arith, length-drop a xs))
+-- the rows before the end, the last among them
+pub row_inside : (m from years at : ℕ) → from ≤ at → at ≤ years → (at - from) * m + m ≤ (years + 1 - from) * m
+row_inside m from years at l h =
+    let apart : years + 1 - from ≡ (at - from) + 1 + (years - at) = omega arith in
+    omega (arith, ap (λ n. n * m) apart, add-mul (at - from + 1) (years - at) m, add-mul (at - from) 1 m)
 
--- of the rows from one year on, those of a year and later
-pub part_length : {X : Type 0} (xs : List X) (m from years at : ℕ) → from ≤ at → at ≤ years → length xs ≡ (years + 1 - from) * m → length (take (length xs - (at - from) * m) (drop ((at - from) * m) xs)) ≡ (years + 1 - at) * m
-part_length xs m from years at l h long =
-    let apart = rows_apart m from years at l h in
-    ap length (rest_is xs ((at - from) * m)) ∙ omega (arith, length-drop ((at - from) * m) xs, long, apart)
-
-pub part_later : {X : Type 0} (xs : List X) (m from at : ℕ) → from < at → drop m (take (length xs - (at - 1 - from) * m) (drop ((at - 1 - from) * m) xs)) ≡ drop ((at - from) * m) xs
-part_later xs m from at l =
-    ap (drop m) (rest_is xs ((at - 1 - from) * m)) ∙ drop-drop m ((at - 1 - from) * m) xs ∙ ap (λ n. drop n xs) (next_row m from at l)
+-- what stands from a place on, once figures have been put there
+pub kept_from : {X : Type 0} (rows figures : List X) (place m : ℕ) → length figures ≡ m → place + m ≤ length rows → drop place (take place rows ++ figures ++ drop (place + m) rows) ≡ figures ++ drop (place + m) rows
+kept_from rows figures place m long inside =
+    ap (drop place) (append_assoc (take place rows) figures (drop (place + m) rows))
+    ∙ drop_at (take place rows) (figures ++ drop (place + m) rows) place (length-take-le place rows (omega (arith, inside)))
 
 -- the entry of place u · m + i is that of state i in the row of u years later
 module _ {F : Type 0} (row : ℕ → List F) (m : ℕ) (long : (t : ℕ) → length (row t) ≡ m) (d : F) where

@@ -28,6 +28,13 @@ module _ {F : Type 0} (v : Operations F) (c : Transitions) (p : Payments) where
   abbrev pub figure_before : ℕ → ℕ → ℕ → (ℕ → F) → F
   figure_before premium i t next = v.add (discounted i t next) (flow c p premium i t)
 
+  -- the same from the figures of all states a year later, in a list, and that of each of the first n states
+  abbrev pub figure_from : ℕ → ℕ → ℕ → List F → F
+  figure_from premium i t after = figure_before premium i t (λ j. get_or after j (v.make (pos 0)))
+
+  abbrev pub figures_from : ℕ → ℕ → List F → ℕ → List F
+  figures_from premium t after n = map (λ i. figure_from premium i t after) (range_with_len 0 n)
+
   -- the figure of state i in year t, of which k years are left
   abbrev pub figure_with : ℕ → ℕ → ℕ → ℕ → F
   figure_with premium zero i t = v.make (flow c p premium i t)

@@ -36,7 +36,7 @@ pub fn course<B: Basis, P: Plan>(
             plan,
             premium,
         };
-        sweep.fill_rows(year, &mut column[..length]);
+        sweep.back_to(year, &mut column[..length]);
     }
     Ok(())
 }

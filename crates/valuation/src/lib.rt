@@ -1,29 +1,27 @@
 // Valuations: what a contract is worth in each state and year, by one backward sweep over a basis and a plan.
 #![tactic(auto)]
 
-ghost use Rattle.std.specs.Prelude.{◌≡◌, ◌*◌, ◌^◌, ◌<◌, List, length, ℤ};
+ghost use Rattle.std.specs.Prelude.{◌≡◌, ◌*◌, ◌^◌, ◌<◌, IsFalse, IsTrue, List, length, ℤ};
 ghost use Rattle.std.specs.Mem.{type_size};
-ghost use Rattle.valuation.specs.Figures.{joined_from};
+ghost use Rattle.valuation.specs.Figures.{figures_from};
 ghost use Rattle.valuation.specs.Operations.{Operations, AreEnds, Ordered};
 
 pub mod closing;
 pub mod course;
 pub mod figure;
 mod fill;
+mod flow;
 pub mod mean;
-mod moves;
 pub mod pricing;
 pub mod reserve;
 pub mod span;
 mod sweep;
 #[cfg(test)]
 mod tests;
-mod year;
 
 use basis::Basis;
-use moves::fill_shares;
 use plan::Plan;
-use units::MOST_STATES;
+use units::premium::Premium;
 
 // How the sweep reckons with figures of one kind. Each call has an answer for all arguments,
 // and raising the amount or a figure that it is given never lowers that answer.
@@ -46,35 +44,29 @@ pub trait Valuation {
     fn join(&self, state: usize, row: &[u32], following: &[Self::Figure]) -> Self::Figure
         ensures { result ≡ (operations self.now).join state row.now following.now };
 
-    // The join of what follows a state in a year, where `after` has the figures of all states a year later. A valuation may write
-    // its own, as where it finds the join in one go.
-    fn join_moves<B: Basis, P: Plan>(
-        &self,
-        basis: &B,
-        plan: &P,
-        state: usize,
-        year: usize,
-        after: &[Self::Figure],
-    ) -> Self::Figure
-        ensures { length after.now ≡ (B.meaning basis.now).states →
-            result ≡ joined_from (operations self.now) (B.meaning basis.now) (P.payments plan.now)
-            state year after.now }
-    {
-        let states = after.len().min(MOST_STATES);
-        let mut shares = [0u32; MOST_STATES];
-        let mut follows = [self.make(0); MOST_STATES];
-        let row = &mut shares[..states];
-        let following = &mut follows[..states];
-        fill_shares(basis, state, year, row);
-        for (to, place) in following.iter_mut().enumerate() {
-            let benefit = plan.move_benefit(state, to, year) as i64;
-            *place = self.add(after[to], benefit);
-        }
-        self.join(state, row, following)
-    }
-
     fn discount(&self, factor: u32, figure: Self::Figure) -> Self::Figure
         ensures { result ≡ (operations self.now).discount factor figure };
+
+    // Fills in the figures of the first states in a year, as many as there are places for, from
+    // those of all states a year later, and answers whether it has: a valuation that can do so
+    // faster than state by state may write its own, and test just once what it has to know of the
+    // figures `after`.
+    fn fill_at_once<B: Basis, P: Plan>(
+        &self,
+        _basis: &B,
+        _plan: &P,
+        _premium: Premium,
+        _year: usize,
+        _after: &[Self::Figure],
+        _figures: &mut [Self::Figure],
+    ) -> bool
+        ensures filled { IsTrue result → _figures.new ≡ figures_from (operations self.now)
+            (B.meaning _basis.now) (P.payments _plan.now) _premium.ticks _year _after.now
+            (length _figures.old) }
+        ensures left { IsFalse result → _figures.new ≡ _figures.old }
+    {
+        false
+    }
 
     ghost told_by_ends: { AreEnds ends };
 

@@ -1,6 +1,6 @@
 // The backward sweep, for every kind of figure. It allocates nothing: figures stand in arrays on the stack, as long as any basis
 // wants, which a valuation's law says to fit in memory. A slice to fill is handed on at once, so that its length stays a clause.
-ghost use Rattle.std.specs.Prelude.{◌≡◌, ◌+◌, ◌-◌, ◌*◌, ◌<◌, ◌≤◌, drop, length};
+ghost use Rattle.std.specs.Prelude.{◌≡◌, ◌+◌, ◌-◌, ◌*◌, ◌<◌, ◌≤◌, ◌++◌, take, drop, length};
 ghost use Rattle.basis.specs.Transitions.{Lawful};
 ghost use Rattle.plan.specs.Payments.{InRange};
 ghost use Rattle.valuation.specs.OrderFacts.{Ordered-prop};
@@ -8,7 +8,7 @@ ghost use Rattle.valuation.specs.Operations.{Ordered};
 
 use crate::Valuation;
 use crate::fill::fill_each;
-use crate::year::Year;
+use crate::flow::flow_of;
 use basis::Basis;
 use plan::Plan;
 use units::MOST_STATES;
@@ -27,18 +27,61 @@ pub(crate) struct Sweep<'a, V: Valuation, B: Basis, P: Plan> {
 }
 
 impl<'a, V: Valuation, B: Basis, P: Plan> Sweep<'a, V, B, P> {
-    ghost use Rattle.valuation.specs.Sweeps.{states_of, years_of, flow_at, figure_at, figures_in};
+    ghost use Rattle.valuation.specs.Sweeps.{states_of, years_of, figure_at, figures_in};
     ghost use Rattle.valuation.specs.Sweeps.{joined_at, discounted_at, rows_from_year};
+    ghost use Rattle.valuation.specs.Sweeps.{joined_with, discounted_with};
+    ghost use Rattle.valuation.specs.Sweeps.{figure_with_list, figures_with};
 
-    // What is paid in a state at the start of a year, less the premium where it is due.
-    pub(crate) fn flow_of(&self, state: usize, year: usize) -> i64
-        ensures { result ≡ flow_at self.now state year }
+    // The join of what follows a state in a year, where `after` has the figures of all states a year later.
+    fn joined(&self, state: usize, year: usize, after: &[V::Figure]) -> V::Figure
+        ensures { result ≡ joined_with self.now state year after.now }
     {
-        let benefit = self.plan.benefit(state, year) as i64;
-        if year < self.basis.years() && self.plan.due(state, year) {
-            benefit - self.premium.ticks() as i64
-        } else {
-            benefit
+        let nothing = self.valuation.make(0);
+        let mut shares = [0u32; MOST_STATES];
+        let mut follows = [nothing; MOST_STATES];
+        let row = self.basis.row(state, year, &mut shares);
+        let following = &mut follows[..self.basis.states()];
+        fill_each(following, |to| {
+            let figure = after.get(to).copied().unwrap_or(nothing);
+            let benefit = self.plan.move_benefit(state, to, year) as i64;
+            self.valuation.add(figure, benefit)
+        });
+        self.valuation.join(state, row, following)
+    }
+
+    // That join discounted, and as it is.
+    fn ahead(&self, state: usize, year: usize, after: &[V::Figure]) -> (V::Figure, V::Figure)
+        ensures discounted { result.0 ≡ discounted_with self.now state year after.now }
+        ensures joined { result.1 ≡ joined_with self.now state year after.now }
+    {
+        let joined = self.joined(state, year, after);
+        let discounted = self.valuation.discount(self.basis.factor(year), joined);
+        (discounted, joined)
+    }
+
+    // The figure of a state in a year.
+    fn figure_before(&self, state: usize, year: usize, after: &[V::Figure]) -> V::Figure
+        ensures { result ≡ figure_with_list self.now state year after.now }
+    {
+        let (discounted, _) = self.ahead(state, year, after);
+        let flow = flow_of(self.basis, self.plan, self.premium, state, year);
+        self.valuation.add(discounted, flow)
+    }
+
+    // The figures of the first states in a year, at once or else each by itself.
+    fn fill_year(&self, year: usize, after: &[V::Figure], figures: &mut [V::Figure])
+        ensures { figures.new ≡ figures_with self.now year after.now (length figures.old) }
+    {
+        let at_once = self.valuation.fill_at_once(
+            self.basis,
+            self.plan,
+            self.premium,
+            year,
+            after,
+            figures,
+        );
+        if !at_once {
+            fill_each(figures, |state| self.figure_before(state, year, after));
         }
     }
 
@@ -48,65 +91,31 @@ impl<'a, V: Valuation, B: Basis, P: Plan> Sweep<'a, V, B, P> {
         ensures { figures.new ≡ figures_in self.now (years_of self.now) }
     {
         let year = self.basis.years();
-        fill_each(
-            figures,
-            |state| self.valuation.make(self.flow_of(state, year)),
-        );
+        fill_each(figures, |state| {
+            let flow = flow_of(self.basis, self.plan, self.premium, state, year);
+            self.valuation.make(flow)
+        });
     }
 
-    // The figures of all states in a year, backwards from the last year of the basis.
-    fn back_to(&self, year: usize, figures: &mut [V::Figure])
-        requires year { year ≤ years_of self.now }
-        requires figures { length figures.old ≡ states_of self.now }
-        ensures { figures.new ≡ figures_in self.now year }
-    {
-        let mut held = [self.valuation.make(0); MOST_STATES];
-        let after = &mut held[..figures.len()];
-        self.last_year(figures);
-        for earlier in (year..self.basis.years()).rev() {
-            after.copy_from_slice(figures);
-            Year {
-                // Lent anew: the year ends within the loop.
-                sweep: &*self,
-                year: earlier,
-                after,
-            }
-            .fill_figures(figures);
-        }
-    }
-
-    // The row of a year that the basis has, where the rows of all later years stand behind its place.
-    fn fill_row(&self, year: usize, rows: &mut [V::Figure])
-        requires year { year < years_of self.now }
-        requires length { length rows.old ≡ (years_of self.now + 1 - year) * states_of self.now }
-        requires later { drop (states_of self.now) rows.old ≡ rows_from_year self.now (year + 1) }
-        ensures { rows.new ≡ rows_from_year self.now year }
-    {
-        let states = self.basis.states();
-        let mut held = [self.valuation.make(0); MOST_STATES];
-        let after = &mut held[..states];
-        after.copy_from_slice(&rows[states..2 * states]);
-        Year {
-            // Lent anew: the year ends here.
-            sweep: &*self,
-            year,
-            after,
-        }
-        .fill_figures(&mut rows[..states]);
-    }
-
-    // The rows of a year and of all later years, one after another.
-    pub(crate) fn fill_rows(&self, first: usize, rows: &mut [V::Figure])
-        requires year { first ≤ years_of self.now }
-        requires length { length rows.old ≡ (years_of self.now + 1 - first) * states_of self.now }
-        ensures { rows.new ≡ rows_from_year self.now first }
+    // The figures of all states in a year, backwards from the last year of the basis. Where there is
+    // a place for a row of them for that year and each later one, these are kept in `rows`.
+    pub(crate) fn back_to(&self, first: usize, rows: &mut [V::Figure]) -> [V::Figure; MOST_STATES]
+        requires { first ≤ years_of self.now }
+        ensures figures { take (states_of self.now) result ≡ figures_in self.now first }
+        ensures rows { length rows.old ≡ (years_of self.now + 1 - first) * states_of self.now →
+            rows.new ≡ rows_from_year self.now first }
     {
         let states = self.basis.states();
         let years = self.basis.years();
-        self.last_year(&mut rows[(years - first) * states..]);
+        let mut figures = [self.valuation.make(0); MOST_STATES];
+        self.last_year(&mut figures[..states]);
+        keep(&figures[..states], rows, (years - first) * states);
         for year in (first..years).rev() {
-            self.fill_row(year, &mut rows[(year - first) * states..]);
+            let after = figures;
+            self.fill_year(year, &after[..states], &mut figures[..states]);
+            keep(&figures[..states], rows, (year - first) * states);
         }
+        figures
     }
 
     // The figure of any state in any year.
@@ -114,17 +123,11 @@ impl<'a, V: Valuation, B: Basis, P: Plan> Sweep<'a, V, B, P> {
         ensures { result ≡ figure_at self.now state year }
     {
         if year >= self.basis.years() {
-            return self.valuation.make(self.flow_of(state, year));
+            let flow = flow_of(self.basis, self.plan, self.premium, state, year);
+            return self.valuation.make(flow);
         }
-        let mut held = [self.valuation.make(0); MOST_STATES];
-        let figures = &mut held[..self.basis.states()];
-        self.back_to(year + 1, figures);
-        Year {
-            sweep: self,
-            year,
-            after: figures,
-        }
-        .figure(state)
+        let figures = self.back_to(year + 1, &mut []);
+        self.figure_before(state, year, &figures[..self.basis.states()])
     }
 
     // The pair of a state in a year that the basis has, and the figure of a state a year later.
@@ -140,16 +143,19 @@ impl<'a, V: Valuation, B: Basis, P: Plan> Sweep<'a, V, B, P> {
         ensures joined { result.0.1 ≡ joined_at self.now state year }
         ensures later { result.1 ≡ figure_at self.now end (year + 1) }
     {
-        let mut held = [self.valuation.make(0); MOST_STATES];
-        let figures = &mut held[..self.basis.states()];
-        self.back_to(year + 1, figures);
-        let later = figures[end];
-        let pair = Year {
-            sweep: self,
-            year,
-            after: figures,
-        }
-        .ahead(state);
-        (pair, later)
+        let figures = self.back_to(year + 1, &mut []);
+        let pair = self.ahead(state, year, &figures[..self.basis.states()]);
+        (pair, figures[end])
+    }
+}
+
+// Puts figures in `rows` from a place on, if they have so many places.
+fn keep<F: Copy>(figures: &[F], rows: &mut [F], place: usize)
+    ensures kept { place + length figures.now ≤ length rows.old →
+        rows.new ≡ take place rows.old ++ figures.now ++ drop (place + length figures.now) rows.old }
+    ensures as_long { length rows.new ≡ length rows.old }
+{
+    if place <= rows.len() && figures.len() <= rows.len() - place {
+        rows[place..place + figures.len()].copy_from_slice(figures);
     }
 }

@@ -5,7 +5,7 @@ ghost use Rattle.basis.specs.Later.{shifted_lawful};
 
 use super::AgeShift;
 use crate::Basis;
-use units::MILLION;
+use units::{MILLION, MOST_STATES};
 
 impl<B: Basis> AgeShift<B> {
     pub fn new(below: B, by: usize) -> AgeShift<B>
@@ -58,5 +58,20 @@ impl<B: Basis> Basis for AgeShift<B> {
     fn share(&self, from: usize, to: usize, year: usize) -> u32 {
         self.year_below(year)
             .map_or(0, |t| self.below.share(from, to, t))
+    }
+
+    fn row<'a>(
+        &'a self,
+        from: usize,
+        year: usize,
+        room: &'a mut [u32; MOST_STATES],
+    ) -> &'a [u32] {
+        match self.year_below(year) {
+            Some(t) => self.below.row(from, t, room),
+            None => {
+                *room = [0; MOST_STATES];
+                &room[..self.states()]
+            }
+        }
     }
 }

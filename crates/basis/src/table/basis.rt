@@ -4,7 +4,7 @@ ghost use Rattle.basis.specs.TableLaw.{transition_table_lawful};
 
 use super::TransitionTable;
 use crate::Basis;
-use units::MILLION;
+use units::{MILLION, MOST_STATES};
 
 impl Basis for TransitionTable {
     ghost meaning = { transition_table };
@@ -29,5 +29,19 @@ impl Basis for TransitionTable {
         } else {
             0
         }
+    }
+
+    fn row<'a>(
+        &'a self,
+        from: usize,
+        year: usize,
+        room: &'a mut [u32; MOST_STATES],
+    ) -> &'a [u32] {
+        if year < self.factors.len() && from < self.states {
+            let start = (year * self.states + from) * self.states;
+            return &self.shares[start..start + self.states];
+        }
+        *room = [0; MOST_STATES];
+        &room[..self.states]
     }
 }

@@ -5,6 +5,8 @@ ghost use Rattle.plan.specs.Bounds.{annuity_bounded};
 use super::Annuity;
 use crate::Plan;
 use crate::paying::is_paying;
+use units::MOST_STATES;
+use units::amount::Amount;
 
 impl Plan for Annuity {
     ghost payments = { annuity };
@@ -25,5 +27,15 @@ impl Plan for Annuity {
 
     fn move_benefit(&self, _from: usize, _to: usize, _year: usize) -> u64 {
         0
+    }
+
+    fn move_benefits<'a>(
+        &'a self,
+        _from: usize,
+        _year: usize,
+        room: &'a mut [Amount; MOST_STATES],
+    ) -> &'a [Amount] {
+        *room = [Amount::zero(); MOST_STATES];
+        room
     }
 }

@@ -5,6 +5,8 @@ ghost use Rattle.plan.specs.Bounds.{endowment_bounded};
 use super::Endowment;
 use crate::Plan;
 use crate::paying::is_paying;
+use units::MOST_STATES;
+use units::amount::Amount;
 
 impl Plan for Endowment {
     ghost payments = { endowment };
@@ -29,5 +31,18 @@ impl Plan for Endowment {
         } else {
             0
         }
+    }
+
+    fn move_benefits<'a>(
+        &'a self,
+        from: usize,
+        year: usize,
+        room: &'a mut [Amount; MOST_STATES],
+    ) -> &'a [Amount] {
+        *room = [Amount::zero(); MOST_STATES];
+        if from == 0 && year < self.term {
+            room[1] = self.sum;
+        }
+        room
     }
 }

@@ -7,6 +7,7 @@ ghost use Rattle.plan.specs.Bounds.{payment_table_bounded};
 use super::PaymentTable;
 use crate::Plan;
 use units::MOST_STATES;
+use units::amount::Amount;
 
 impl PaymentTable {
     // Where the benefit and the mark of a state at the start of a year stand, if the table has them.
@@ -38,6 +39,24 @@ impl Plan for PaymentTable {
                 self.moves[place * MOST_STATES + to].ticks()
             }
             _ => 0,
+        }
+    }
+
+    fn move_benefits<'a>(
+        &'a self,
+        from: usize,
+        year: usize,
+        room: &'a mut [Amount; MOST_STATES],
+    ) -> &'a [Amount] {
+        match self.place(from, year) {
+            Some(place) if year < self.years => {
+                let start = place * MOST_STATES;
+                &self.moves[start..start + MOST_STATES]
+            }
+            _ => {
+                *room = [Amount::zero(); MOST_STATES];
+                room
+            }
         }
     }
 }

@@ -8,14 +8,15 @@ ghost use Rattle.valuation.specs.Means.{LawfulFigure, LawfulRow, products};
 ghost use Rattle.valuation.specs.Orders.{mean_told_by_ends, mean_ordered};
 ghost use Rattle.std.proofs.Common.{rules};
 
-mod moves;
+mod year;
 
 use crate::Valuation;
 use basis::Basis;
-use moves::{exact_moves, nearest_moves};
 use plan::Plan;
 use units::MILLION;
+use units::premium::Premium;
 use units::rounding::nearest;
+use year::ExactYear;
 
 #[derive(Clone, Copy)]
 pub struct Mean;
@@ -97,18 +98,22 @@ impl Valuation for Mean {
         round_mean(sum)
     }
 
-    // Exact where it can be told that nothing saturates, as in every sweep, in one loop: that takes a third of the time.
-    fn join_moves<B: Basis, P: Plan>(
+    // Where it can be told that nothing saturates, as in every sweep.
+    fn fill_at_once<B: Basis, P: Plan>(
         &self,
         basis: &B,
         plan: &P,
-        state: usize,
+        premium: Premium,
         year: usize,
         after: &[i64],
-    ) -> i64 {
-        match exact_moves(basis, plan, state, year, after) {
-            Some(sum) => round_mean(sum),
-            None => round_mean(nearest_moves(basis, plan, state, year, after)),
+        figures: &mut [i64],
+    ) -> bool {
+        match ExactYear::new(basis, plan, premium, year, after) {
+            Some(exact) => {
+                exact.fill(figures);
+                true
+            }
+            None => false,
         }
     }
 
