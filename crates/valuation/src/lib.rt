@@ -14,6 +14,7 @@ mod flow;
 pub mod mean;
 pub mod pricing;
 pub mod reserve;
+mod rooms;
 pub mod span;
 mod sweep;
 #[cfg(test)]

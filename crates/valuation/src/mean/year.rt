@@ -7,12 +7,10 @@ ghost use Rattle.valuation.specs.Figures.{joined_from, figure_from, figures_from
 ghost use Rattle.valuation.specs.Means.{mean};
 
 use super::{round_discount, round_mean};
-use crate::fill::fill_each;
 use crate::flow::flow_of;
+use crate::rooms::Rooms;
 use basis::Basis;
 use plan::Plan;
-use units::MOST_STATES;
-use units::amount::Amount;
 use units::premium::Premium;
 
 // A figure that leaves room for an amount in the range of lawful figures.
@@ -28,12 +26,11 @@ fn is_roomy(figure: i64) -> bool
 fn all_roomy(after: &[i64]) -> bool
     ensures { IsTrue result → (j : ℕ) → Within 4990000000000 (get_or after.now j (pos 0)) }
 {
+    let mut roomy = true;
     for figure in after {
-        if !is_roomy(*figure) {
-            return false;
-        }
+        roomy &= is_roomy(*figure);
     }
-    true
+    roomy
 }
 
 // A sum with one more part in it, of a figure that is raised by an amount.
@@ -86,15 +83,13 @@ impl<'a, B: Basis, P: Plan> ExactYear<'a, B, P> {
     }
 
     // The join of what follows a state: products with shares, added up and rounded.
-    fn joined(&self, state: usize) -> i64
+    fn joined(&self, state: usize, rooms: &mut Rooms) -> i64
         ensures value { result ≡ joined_from mean (B.meaning self.now.basis.now)
             (P.payments self.now.plan.now) state self.now.year self.now.after.now }
         ensures range { Within 5000000000000 result }
     {
-        let mut shares = [0u32; MOST_STATES];
-        let mut amounts = [Amount::zero(); MOST_STATES];
-        let row = self.basis.row(state, self.year, &mut shares);
-        let benefits = self.plan.move_benefits(state, self.year, &mut amounts);
+        let row = self.basis.row(state, self.year, &mut rooms.shares);
+        let benefits = self.plan.move_benefits(state, self.year, &mut rooms.amounts);
         let mut sum = 0i64;
         for to in 0..self.after.len() {
             sum = add_move(sum, row[to], self.after[to], benefits[to].ticks());
@@ -102,13 +97,13 @@ impl<'a, B: Basis, P: Plan> ExactYear<'a, B, P> {
         round_mean(sum)
     }
 
-    fn figure(&self, state: usize, factor: u32) -> i64
+    fn figure(&self, state: usize, factor: u32, rooms: &mut Rooms) -> i64
         requires { factor ≡ (B.meaning self.now.basis.now).factor self.now.year }
         ensures { result ≡ figure_from mean (B.meaning self.now.basis.now)
             (P.payments self.now.plan.now) self.now.premium.ticks state self.now.year
             self.now.after.now }
     {
-        let discounted = round_discount(i64::from(factor) * self.joined(state));
+        let discounted = round_discount(i64::from(factor) * self.joined(state, rooms));
         discounted + flow_of(self.basis, self.plan, self.premium, state, self.year)
     }
 
@@ -118,7 +113,10 @@ impl<'a, B: Basis, P: Plan> ExactYear<'a, B, P> {
             (P.payments self.now.plan.now) self.now.premium.ticks self.now.year self.now.after.now
             (length figures.old) }
     {
+        let mut rooms = Rooms::new();
         let factor = self.basis.factor(self.year);
-        fill_each(figures, |state| self.figure(state, factor));
+        for (state, figure) in figures.iter_mut().enumerate() {
+            *figure = self.figure(state, factor, &mut rooms);
+        }
     }
 }
