@@ -17,17 +17,10 @@ pub(crate) fn to_nearest<const PARTS: u32>(amount: i64) -> i64
     }
 }
 
-// Amounts that are nearer to nought are raised above it before they are divided, which is faster: so many wholes.
-const RAISED: i64 = 4_600_000_000_000;
-
 // A millionth of an amount, to the nearest whole, halves upwards, below nought too.
 pub fn nearest(amount: i64) -> i64
     ensures value { result ≡ nearest amount }
     ensures laws { ToNearest nearest }
 {
-    if -RAISED * 1_000_000 <= amount && amount <= RAISED * 1_000_000 {
-        let raised = amount + RAISED * 1_000_000 + 500_000;
-        return (raised as u64 / 1_000_000) as i64 - RAISED;
-    }
     to_nearest::<1_000_000>(amount)
 }

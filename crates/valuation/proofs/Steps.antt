@@ -36,8 +36,9 @@ module _ (c : Transitions) (p : Payments) (i t : ℕ) (next : ℕ → ℤ) where
   pub one_more : (n : ℕ) → so_far (n + 1) ≡ so_far n +ℤ part n
   one_more n = ap (int_sum_by part) (counting_more n) ∙ int_sum_by_append part (range_with_len 0 n) (n ∷ []) ∙ omega (arith, ints)
 
-pub one_roomy_more : (d n : ℕ) (next : ℕ → ℤ) → ((j : ℕ) → j < n → Within d (next j)) → Within d (next n) → (j : ℕ) → j < n + 1 → Within d (next j)
-one_roomy_more d n next before last j l =
+-- what holds at the first places, and at one more
+pub one_holds_more : {X : Type 0} (holds : X → Type 0) (n : ℕ) (next : ℕ → X) → ((j : ℕ) → j < n → holds (next j)) → holds (next n) → (j : ℕ) → j < n + 1 → holds (next j)
+one_holds_more holds n next before last j l =
     ⊎_elim (λ here. let same : j ≡ n = omega (arith, l, here) in rw same last) (λ earlier. before j (omega (arith, earlier))) (leb_tells n j)
 
 module _ (c : Transitions) (law : Lawful c) (p : Payments) (range : InRange p) (i t : ℕ) (early : t < c.years) where
@@ -51,7 +52,7 @@ module _ (c : Transitions) (law : Lawful c) (p : Payments) (range : InRange p) (
       let more = ap (sum_by (λ j. c.share i j t)) (counting_more n) in
       omega (arith, more, shares_below (n + 1) (omega arith), sum_by-append (λ j. c.share i j t) (range_with_len 0 n) (n ∷ []), sum_by-cons (λ j. c.share i j t) n [])
 
-  pub so_far_within : (next : ℕ → ℤ) (n : ℕ) → ((j : ℕ) → j < n → Within 4990000000000 (next j)) → n ≤ c.states → Within 9000000000000000000 (so_far c p i t next n)
+  pub so_far_within : (next : ℕ → ℤ) (n : ℕ) → ((j : ℕ) → j < n → Within 4580000000000 (next j)) → n ≤ c.states → Within 4600000000000000000 (so_far c p i t next n)
   so_far_within next n each l =
-      let follow : (j : ℕ) → j < n → Within (limit + 4990000000000) (follows c p i t next j) = λ j inside. within_add (within_pos limit (p.move_benefit i j t) (range.most_move_benefit i j t)) (each j inside) in
-      within_more (omega (arith, shares_below n l)) (int_sum_by_within (λ j. c.share i j t) (follows c p i t next) (limit + 4990000000000) n follow 0 n (omega arith))
+      let follow : (j : ℕ) → j < n → Within (limit + 4580000000000) (follows c p i t next j) = λ j inside. within_add (within_pos limit (p.move_benefit i j t) (range.most_move_benefit i j t)) (each j inside) in
+      within_more (omega (arith, shares_below n l)) (int_sum_by_within (λ j. c.share i j t) (follows c p i t next) (limit + 4580000000000) n follow 0 n (omega arith))

@@ -1,5 +1,7 @@
 -- The span as a valuation: figures are pairs of ends, and a join goes over what follows moves that have a share. Assumes nothing.
-use Rattle.std.specs.Prelude.{ℕ, cond, nat_lt, List, [], ◌∷◌, map, ℤ}
+use Rattle.std.specs.Prelude.{ℕ, cond, nat_lt, List, [], ◌∷◌, map, Option, None, Some, ℤ, pos}
+use Rattle.std.specs.Int.{int_min, int_max}
+use Rattle.units.specs.Near.{Within}
 use Rattle.valuation.specs.declared.span.ends.Ends.{Ends}
 use Rattle.valuation.specs.Extremes.{smallest, largest}
 use Rattle.valuation.specs.Means.{mean, LawfulFigure}
@@ -26,6 +28,22 @@ span = record {
 
 abbrev pub span_ends : Ends → List ℤ
 span_ends x = x.least ∷ x.greatest ∷ []
+
+abbrev pub nought : Ends
+nought = record { least = pos 0; greatest = pos 0 }
+
+-- both ends of what has come so far, if anything has, and of one more
+abbrev pub widest : Option Ends → Ends → Ends
+widest None x = x
+widest (Some e) x = record {
+  least = int_min e.least x.least;
+  greatest = int_max e.greatest x.greatest;
+}
+
+-- both ends are so near to nought
+pub record EndsWithin (d : ℕ) (x : Ends) : Type 0 where
+  pub least : Within d x.least
+  pub greatest : Within d x.greatest
 
 -- where every answer is fixed
 pub record LawfulEnds (x : Ends) : Type 0 where

@@ -1,5 +1,7 @@
 // What is paid at the start of a year.
 ghost use Rattle.std.specs.Prelude.{◌≡◌};
+ghost use Rattle.units.specs.Near.{Within};
+ghost use Rattle.units.specs.Ranges.{limit};
 ghost use Rattle.valuation.specs.Figures.{flow};
 
 use basis::Basis;
@@ -14,7 +16,9 @@ pub(crate) fn flow_of<B: Basis, P: Plan>(
     state: usize,
     year: usize,
 ) -> i64
-    ensures { result ≡ flow (B.meaning basis.now) (P.payments plan.now) premium.ticks state year }
+    ensures value { result ≡
+        flow (B.meaning basis.now) (P.payments plan.now) premium.ticks state year }
+    ensures range { Within limit result }
 {
     let benefit = plan.benefit(state, year) as i64;
     if year < basis.years() && plan.due(state, year) {

@@ -15,10 +15,12 @@ pub mod mean;
 pub mod pricing;
 pub mod reserve;
 mod rooms;
+mod rounding;
 pub mod span;
 mod sweep;
 #[cfg(test)]
 mod tests;
+mod within;
 
 use basis::Basis;
 use plan::Plan;

@@ -1,44 +1,37 @@
 // A year in the mean of which nothing has to saturate: what has to be tested of the figures of the
 // year after is tested once, and their type tells it.
-ghost use Rattle.std.specs.Prelude.{◌≡◌, ℕ, ◌<◌, ◌≤◌, ◌↔◌, get_or, length, pos, ◌+ℤ◌, ◌*ℤ◌, IsTrue, IfSome};
+ghost use Rattle.std.specs.Prelude.{◌≡◌, ℕ, ◌<◌, ◌≤◌, get_or, length, pos, ◌+ℤ◌, ◌*ℤ◌, IsTrue, IfSome};
 ghost use Rattle.units.specs.Near.{Within};
 ghost use Rattle.units.specs.Ranges.{million, limit};
 ghost use Rattle.valuation.specs.Figures.{joined_from, figure_from, figures_from};
 ghost use Rattle.valuation.specs.Means.{mean};
 
-use super::{round_discount, round_mean};
+use crate::within::{brought_back, is_roomy};
 use crate::flow::flow_of;
 use crate::rooms::Rooms;
+use crate::rounding::round_near_mean;
 use basis::Basis;
 use plan::Plan;
 use units::premium::Premium;
 
-// A figure that leaves room for an amount in the range of lawful figures.
-const ROOMY: i64 = 4_990_000_000_000;
-
-fn is_roomy(figure: i64) -> bool
-    ensures { IsTrue result ↔ Within 4990000000000 figure }
-{
-    -ROOMY <= figure && figure <= ROOMY
-}
-
-// Whether all figures leave such room. A loop of its own, so that no test breaks off a sum.
+// Whether all figures leave room. A loop of its own, so that no test breaks off a sum.
 fn all_roomy(after: &[i64]) -> bool
-    ensures { IsTrue result → (j : ℕ) → Within 4990000000000 (get_or after.now j (pos 0)) }
+    ensures { IsTrue result → (j : ℕ) → Within 4580000000000 (get_or after.now j (pos 0)) }
 {
-    let mut roomy = true;
     for figure in after {
-        roomy &= is_roomy(*figure);
+        if !is_roomy(*figure) {
+            return false;
+        }
     }
-    roomy
+    true
 }
 
 // A sum with one more part in it, of a figure that is raised by an amount.
 fn add_move(sum: i64, share: u32, figure: i64, amount: u64) -> i64
     requires share { share ≤ million }
-    requires figure { Within 4990000000000 figure }
+    requires figure { Within 4580000000000 figure }
     requires amount { amount ≤ limit }
-    requires room { Within 9000000000000000000 (sum +ℤ pos share *ℤ (pos amount +ℤ figure)) }
+    requires room { Within 4600000000000000000 (sum +ℤ pos share *ℤ (pos amount +ℤ figure)) }
     ensures { result ≡ sum +ℤ pos share *ℤ (pos amount +ℤ figure) }
 {
     sum + i64::from(share) * (amount as i64 + figure)
@@ -54,7 +47,7 @@ pub(super) struct ExactYear<'a, B: Basis, P: Plan> {
     after: &'a [i64],
     ghost early: { year < (B.meaning basis.now).years },
     ghost fits: { length after.now ≡ (B.meaning basis.now).states },
-    ghost roomy: { (j : ℕ) → Within 4990000000000 (get_or after.now j (pos 0)) },
+    ghost roomy: { (j : ℕ) → Within 4580000000000 (get_or after.now j (pos 0)) },
 }
 
 impl<'a, B: Basis, P: Plan> ExactYear<'a, B, P> {
@@ -86,7 +79,7 @@ impl<'a, B: Basis, P: Plan> ExactYear<'a, B, P> {
     fn joined(&self, state: usize, rooms: &mut Rooms) -> i64
         ensures value { result ≡ joined_from mean (B.meaning self.now.basis.now)
             (P.payments self.now.plan.now) state self.now.year self.now.after.now }
-        ensures range { Within 5000000000000 result }
+        ensures range { Within 4590000000000 result }
     {
         let row = self.basis.row(state, self.year, &mut rooms.shares);
         let benefits = self.plan.move_benefits(state, self.year, &mut rooms.amounts);
@@ -94,7 +87,7 @@ impl<'a, B: Basis, P: Plan> ExactYear<'a, B, P> {
         for to in 0..self.after.len() {
             sum = add_move(sum, row[to], self.after[to], benefits[to].ticks());
         }
-        round_mean(sum)
+        round_near_mean(sum)
     }
 
     fn figure(&self, state: usize, factor: u32, rooms: &mut Rooms) -> i64
@@ -103,8 +96,8 @@ impl<'a, B: Basis, P: Plan> ExactYear<'a, B, P> {
             (P.payments self.now.plan.now) self.now.premium.ticks state self.now.year
             self.now.after.now }
     {
-        let discounted = round_discount(i64::from(factor) * self.joined(state, rooms));
-        discounted + flow_of(self.basis, self.plan, self.premium, state, self.year)
+        let flow = flow_of(self.basis, self.plan, self.premium, state, self.year);
+        brought_back(factor, self.joined(state, rooms), flow)
     }
 
     // The figures of the first states.

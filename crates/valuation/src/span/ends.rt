@@ -9,6 +9,8 @@ pub struct Ends {
 }
 
 impl Ends {
+    ghost use Rattle.valuation.specs.SpanOperations.{widest};
+
     // The span from the lower to the higher of two spans' ends.
     pub(crate) fn widened_by(self, other: Ends) -> Ends
         ensures { result ≡ record {
@@ -19,6 +21,16 @@ impl Ends {
         Ends {
             least: self.least.min(other.least),
             greatest: self.greatest.max(other.greatest),
+        }
+    }
+
+    // The same from what has come so far, if anything has.
+    pub(crate) fn widened_from(self, so_far: Option<Ends>) -> Ends
+        ensures { result ≡ widest so_far self }
+    {
+        match so_far {
+            Some(ends) => ends.widened_by(self),
+            None => self,
         }
     }
 }

@@ -8,6 +8,7 @@ ghost use Rattle.valuation.specs.Spans.{ends, Encloses};
 
 pub mod ends;
 pub mod valuation;
+mod year;
 
 use crate::figure::figure;
 use crate::span::ends::Ends;

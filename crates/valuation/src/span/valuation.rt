@@ -9,6 +9,10 @@ ghost use Rattle.valuation.specs.SpanOrders.{span_told_by_ends, span_ordered};
 use crate::Valuation;
 use crate::mean::Mean;
 use crate::span::ends::Ends;
+use crate::span::year::ExactYear;
+use basis::Basis;
+use plan::Plan;
+use units::premium::Premium;
 
 #[derive(Clone, Copy)]
 pub struct Span;
@@ -57,6 +61,25 @@ impl Valuation for Span {
             }
         }
         hull.unwrap_or(self.make(0))
+    }
+
+    // Where it can be told that nothing saturates, as in every sweep.
+    fn fill_at_once<B: Basis, P: Plan>(
+        &self,
+        basis: &B,
+        plan: &P,
+        premium: Premium,
+        year: usize,
+        after: &[Ends],
+        figures: &mut [Ends],
+    ) -> bool {
+        match ExactYear::new(basis, plan, premium, year, after) {
+            Some(exact) => {
+                exact.fill(figures);
+                true
+            }
+            None => false,
+        }
     }
 
     fn discount(&self, factor: u32, figure: Ends) -> Ends

@@ -1,26 +1,21 @@
-use Rattle.std.proofs.Common.{rules, ◌≡◌, ℕ, ◌&&◌, Bool, true, false, IsTrue, get_or, ℤ, pos, w64, to_z, of_z, ⊎_elim, refl, arith}
+use Rattle.std.proofs.Common.{rules, ◌≡◌, ℕ, get_or, ℤ, pos, w64, to_z, of_z, ⊎_elim, arith}
 use Rattle.std.proofs.Math.ListN.{get_or-eq_default}
 use Rattle.std.proofs.lemmas.Bool.Decides.{leb_tells}
 use Rattle.units.specs.Near.{Within}
 use Rattle.units.proofs.Distances.{within_pos}
-use Rattle.valuation.proofs.Steps.{one_roomy_more}
+use Rattle.valuation.proofs.Steps.{one_holds_more}
 use Rattle.valuation.proofs.mean.year.all_roomy.Goals as goal
 
-both : (a b : Bool) → IsTrue (a && b) → IsTrue a × IsTrue b
-both true true is = (is, is)
-both true false is = (refl, is)
-both false b is = (is, cc)
-
 pub loop-figure-preserved : goal.loop-figure-preserved
-loop-figure-preserved c roomy =
-    let each = both c.loop-figure.roomy c.is_roomy-roomy.result roomy in
+loop-figure-preserved c =
     let next : ℕ → ℤ = λ j. get_or c.args.after.now j (pos 0) in
     let read : to_z w64 (of_z w64 (next c.loop-figure.figure-index)) ≡ next c.loop-figure.figure-index = search rules in
-    one_roomy_more 4990000000000 c.loop-figure.figure-index next (c.loop-figure.invariant each.0) (rw read at (c.is_roomy-roomy.ensures.0 each.1))
+    let given : Within 4580000000000 (to_z w64 (of_z w64 (next c.loop-figure.figure-index))) = search rules in
+    one_holds_more (Within 4580000000000) c.loop-figure.figure-index next c.loop-figure.invariant (rw read at given)
 
 pub returns : goal.returns
 returns c is j =
     ⊎_elim
-    (λ outside. let past = get_or-eq_default c.args.after.now (pos 0) {n = j} (omega (arith, outside, c.loop-figure-test.false)) in rw past (within_pos 4990000000000 0 (omega arith)))
-    (λ inside. c.loop-figure.invariant is j (omega (arith, inside)))
+    (λ outside. let past = get_or-eq_default c.args.after.now (pos 0) {n = j} (omega (arith, outside, c.loop-figure-test.false)) in rw past (within_pos 4580000000000 0 (omega arith)))
+    (λ inside. c.loop-figure.invariant j (omega (arith, inside)))
     (leb_tells c.loop-figure.figure-index j)

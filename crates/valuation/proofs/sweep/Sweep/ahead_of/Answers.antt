@@ -1,4 +1,4 @@
-use Rattle.std.proofs.Common.{◌≡◌, ℕ, ◌+◌, take, ap, ◌∙◌}
+use Rattle.std.proofs.Common.{◌≡◌, ◌+◌, take, ap, ◌∙◌}
 use Rattle.valuation.specs.Figures.{figure, figures_of}
 use Rattle.valuation.proofs.Years.{joined_from_is}
 use Rattle.valuation.proofs.Backwards.{figure_read}

@@ -1,6 +1,4 @@
-use Rattle.std.proofs.Common.{rules, ◌≡◌, ℕ, ◌+◌, ◌<◌, ◌≤◌, get_or, ℤ, pos, w64, to_z, of_z, sym, ap, ◌∙◌, arith}
-use Rattle.units.specs.Near.{Within}
-use Rattle.units.specs.Ranges.{million, limit}
+use Rattle.std.proofs.Common.{rules, ◌≡◌, ℕ, ◌+◌, ◌<◌, get_or, ℤ, pos, w64, to_z, of_z, sym, ap, ◌∙◌, arith}
 use Rattle.units.proofs.Distances.{within_more}
 use Rattle.valuation.specs.Means.{rounded_mean}
 use Rattle.valuation.specs.Reserves.{expected}
@@ -66,10 +64,10 @@ returns-clause-value g c =
     let p = g.P.Plan.payments year.plan.now in
     let next : ℕ → ℤ = λ j. get_or year.after.now j (pos 0) in
     let all : c.loop-to.to ≡ b.states = omega (arith, c.loop-to-test.false, c.loop-to.auto.to-end, year.fits) in
-    let kept : to_z w64 (of_z w64 c.round_mean.result) ≡ c.round_mean.result = search rules in
-    kept ∙ c.round_mean.ensures
+    let kept : to_z w64 (of_z w64 c.round_near_mean.result) ≡ c.round_near_mean.result = search rules in
+    kept ∙ c.round_near_mean.ensures
     ∙ ap rounded_mean (c.loop-to.invariant ∙ ap (so_far b p c.args.state year.year next) all)
-    ∙ sym (joined_is b law p range c.args.state year.year 4990000000000 next year.early year.roomy (omega arith))
+    ∙ sym (joined_is b law p range c.args.state year.year 4580000000000 next year.early year.roomy (omega arith))
 
 pub returns-clause-range : goal.returns-clause-range
 returns-clause-range g c =
@@ -80,7 +78,17 @@ returns-clause-range g c =
     let p = g.P.Plan.payments year.plan.now in
     let next : ℕ → ℤ = λ j. get_or year.after.now j (pos 0) in
     let all : c.loop-to.to ≡ b.states = omega (arith, c.loop-to-test.false, c.loop-to.auto.to-end, year.fits) in
-    let kept : to_z w64 (of_z w64 c.round_mean.result) ≡ c.round_mean.result = search rules in
-    let is : to_z w64 (of_z w64 c.round_mean.result) ≡ expected b p c.args.state year.year next =
-    kept ∙ c.round_mean.ensures ∙ ap rounded_mean (c.loop-to.invariant ∙ ap (so_far b p c.args.state year.year next) all) in
-    rw is (within_more (omega arith) (expected_within b law p range c.args.state year.year 4990000000000 next year.early year.roomy))
+    let kept : to_z w64 (of_z w64 c.round_near_mean.result) ≡ c.round_near_mean.result = search rules in
+    let is : to_z w64 (of_z w64 c.round_near_mean.result) ≡ expected b p c.args.state year.year next =
+    kept ∙ c.round_near_mean.ensures ∙ ap rounded_mean (c.loop-to.invariant ∙ ap (so_far b p c.args.state year.year next) all) in
+    rw is (within_more (omega arith) (expected_within b law p range c.args.state year.year 4580000000000 next year.early year.roomy))
+
+pub round_near_mean-requires : goal.round_near_mean-requires
+round_near_mean-requires g c =
+    let year = c.args.self.now in
+    let law = g.met.B.Basis.lawful year.basis.now in
+    let range = g.met.P.Plan.bounded year.plan.now in
+    let b = g.B.Basis.meaning year.basis.now in
+    let p = g.P.Plan.payments year.plan.now in
+    let next : ℕ → ℤ = λ j. get_or year.after.now j (pos 0) in
+    rw c.loop-to.invariant (so_far_within b law p range c.args.state year.year year.early next c.loop-to.to (λ j l. year.roomy j) (omega (arith, c.loop-to.auto.to-end, year.fits)))
