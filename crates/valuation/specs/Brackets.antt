@@ -3,7 +3,7 @@ use Rattle.std.specs.Prelude.{◌≡◌, ℕ, ◌+◌, ◌-◌, ◌<◌, ◌≤�
 use Rattle.basis.specs.Transitions.{Transitions}
 use Rattle.plan.specs.Payments.{Payments}
 use Rattle.valuation.specs.Reserves.{reserve}
-use Rattle.valuation.specs.declared.pricing.Priced.{Priced}
+use Rattle.valuation.specs.declared.pricing.priced.Priced.{Priced}
 use Rattle.valuation.specs.declared.pricing.bracket.Bracket.{Bracket}
 
 -- how far the ends are apart

@@ -1,7 +1,7 @@
 // The bracket of the search for the least premium.
 ghost use Rattle.std.specs.Prelude.{◌<◌, ◌≤ℤ◌, ◌<ℤ◌};
 
-use super::Priced;
+use super::priced::Priced;
 use units::premium::Premium;
 
 // The least premium at which the reserve is not above the bound lies above the lower end, where the

@@ -7,11 +7,13 @@ ghost use Rattle.valuation.specs.Premiums.{LeastPremium, NoPremium};
 ghost use Rattle.valuation.specs.Reserves.{reserve};
 
 mod bracket;
+pub mod priced;
 
 use crate::reserve::reserve;
 use basis::Basis;
 use bracket::Bracket;
 use plan::Plan;
+use priced::Priced;
 use units::LIMIT;
 use units::fault::Fault;
 use units::premium::Premium;
@@ -20,13 +22,6 @@ use units::rule::Rule;
 // In 34 trials that halve, one premium is left of all in range. Two more let the line go where it
 // leads, however little that leaves out, before it has to halve.
 const MOST_TRIALS: u32 = 36;
-
-// A premium, and the reserve at it.
-#[derive(Clone, Copy, PartialEq, Eq, Debug)]
-pub struct Priced {
-    pub premium: Premium,
-    pub reserve: i64,
-}
 
 fn priced_at<B: Basis, P: Plan>(
     basis: &B,
