@@ -115,6 +115,6 @@ module _ {B P : Type 0} {b : BasisGhosts B} {p : PlanGhosts P} where
     pub opening : made.opening_result ≡ (issued (basis_proposed o) (terms_of o)).books.results
 
   -- pricing, and issuing at the premium that is found
-  pub record IssuesAtLeast (o : Proposal B P b p) (made : Issued B P b p) : Type 0 where
+  pub record IssuesAtLeastPremium (o : Proposal B P b p) (made : Issued B P b p) : Type 0 where
     pub least : LeastOf o made.premium.ticks
     pub issues : Issues (bearing made.premium o) made

@@ -30,7 +30,7 @@ pub fn issue<'a, B: Basis, P: Plan + Drop>(
     let mut proposal = Proposal::new(basis, plan);
     proposal.place(start)?;
     proposal.deposit(deposit)?;
-    proposal.issue_at_least()
+    proposal.issue_at_least_premium()
 }
 
 // Answers every request in its order.

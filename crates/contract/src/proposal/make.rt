@@ -5,7 +5,7 @@ ghost use Rattle.units.specs.Rules.{rule_number, rule_layer};
 ghost use Rattle.valuation.specs.Means.{mean, mean_ends};
 ghost use Rattle.contract.specs.Promises.{Promise};
 ghost use Rattle.contract.specs.Proposals.{basis_proposed, terms_of, begins_with};
-ghost use Rattle.contract.specs.Proposals.{bearing, reserve_proposed, IssuesAtLeast};
+ghost use Rattle.contract.specs.Proposals.{bearing, reserve_proposed, IssuesAtLeastPremium};
 ghost use Rattle.contract.specs.Proposals.{Places, Deposits, LeastOf, NoneOf, Prices, Issues};
 
 use super::Proposal;
@@ -114,8 +114,8 @@ impl<'a, B: Basis, P: Plan + Drop> Proposal<'a, B, P> {
     }
 
     // Prices the proposal and issues it, with no sweep beyond those of pricing.
-    pub(crate) fn issue_at_least(self) -> Result<Issued<'a, B, P>, Fault>
-        ensures { MatchResult result (IssuesAtLeast self.entry) (NoneOf self.entry) }
+    pub(crate) fn issue_at_least_premium(self) -> Result<Issued<'a, B, P>, Fault>
+        ensures { MatchResult result (IssuesAtLeastPremium self.entry) (NoneOf self.entry) }
     {
         let priced = self.least_priced()?;
         Ok(self.issue_at(priced))

@@ -4,8 +4,8 @@ ghost use Rattle.std.specs.Prelude.{◌<◌, ◌≤ℤ◌, ◌<ℤ◌};
 use super::priced::Priced;
 use units::premium::Premium;
 
-// The least premium at which the reserve is not above the bound lies above the lower end, where the
-// reserve is, and not above the upper.
+// Two premiums: at the lower the reserve is above the bound, at the upper it is not. So the least
+// premium at which it is not lies above the lower, and is the upper where they are neighbours.
 #[derive(Drop)]
 pub(super) struct Bracket {
     pub(super) bound: i64,

@@ -1,6 +1,6 @@
 use Rattle.std.proofs.Common.{◌≡◌, rules, ap, Err, w64, to_z, of_z}
 use Rattle.contract.specs.Standings.{NotIssued}
-use Rattle.contract.proofs.Issuing.{not_placed, not_deposited, issued_at_least}
+use Rattle.contract.proofs.Issuing.{not_placed, not_deposited, issued_at_least_premium}
 use Rattle.contract.proofs.Promised.{promised_in_the_mean}
 use Rattle.contract.proofs.run.issue.Goals as goal
 
@@ -22,8 +22,8 @@ returns-in_err-deposit-clause-answer g c =
 pub returns-clause-answer : goal.returns-clause-answer
 returns-clause-answer g c =
     let back : to_z w64 (of_z w64 c.args.deposit) ≡ c.args.deposit = Prim.search rules in
-    issued_at_least c.new-proposal.result c.place.new.self c.deposit.new.self c.args.basis.now c.args.plan c.args.start c.args.deposit
-    (Prim.search rules) c.new-proposal.ensures.terms c.in_ok-place.ensures.1 (rw back at c.in_ok-deposit.ensures.1) (Prim.search rules) (Prim.search rules) c.issue_at_least.result c.issue_at_least.ensures
+    issued_at_least_premium c.new-proposal.result c.place.new.self c.deposit.new.self c.args.basis.now c.args.plan c.args.start c.args.deposit
+    (Prim.search rules) c.new-proposal.ensures.terms c.in_ok-place.ensures.1 (rw back at c.in_ok-deposit.ensures.1) (Prim.search rules) (Prim.search rules) c.issue_at_least_premium.result c.issue_at_least_premium.ensures
 
 pub returns-in_err-place-clause-promise : goal.returns-in_err-place-clause-promise
 returns-in_err-place-clause-promise g c = promised_in_the_mean (g.B.Basis.meaning c.args.basis.now) (g.met.B.Basis.lawful c.args.basis.now)
