@@ -1,5 +1,5 @@
 -- What is issued on a plan, in a start state and on a deposit: at one premium or, for one reason, not at all. Assumes nothing.
-use Rattle.std.proofs.Common.{◌≡◌, ℕ, ◌<◌, ◌≤◌, ℤ, refl, sym, ap, ◌∙◌, subst, arith}
+use Rattle.std.proofs.Common.{◌≡◌, ℕ, ◌<◌, ◌≤◌, ℤ, pos, Result, Ok, Err, MatchResult, refl, sym, ap, ◌∙◌, subst, arith}
 use Rattle.units.specs.Faults.{entry_fault}
 use Rattle.units.specs.Ranges.{WithinLimit}
 use Rattle.units.specs.declared.fault.Fault.{Fault}
@@ -10,8 +10,8 @@ use Rattle.basis.specs.declared.Basis.{Ghosts as BasisGhosts}
 use Rattle.plan.specs.Payments.{Payments}
 use Rattle.plan.specs.declared.Plan.{Ghosts as PlanGhosts}
 use Rattle.valuation.specs.Premiums.{NoPremium}
-use Rattle.contract.specs.Cases.{IsIssued, terms_at}
-use Rattle.contract.specs.Proposals.{Takes, Issues, LeastOf, basis_proposed, terms_of, begins_with, placed_in, deposited, priced_at}
+use Rattle.contract.specs.Cases.{IsIssued, IssuesOn, terms_at}
+use Rattle.contract.specs.Proposals.{Takes, Issues, IssuesAtLeastPremium, LeastOf, NoneOf, bearing, basis_proposed, terms_of, begins_with, placed_in, deposited, priced_at}
 use Rattle.contract.specs.Standings.{Terms, AreTerms, IsPriced, NotIssued, begun, opening_result, reserve_at, start_outside, deposit_outside, no_premium}
 use Rattle.contract.specs.declared.case.Issued.{Issued}
 use Rattle.contract.specs.declared.proposal.Proposal.{Proposal}
@@ -72,3 +72,14 @@ module _ {B P : Type 0} {b : BasisGhosts B} {p : PlanGhosts P} (fresh on_place o
         reserve = issues.reserve ∙ ap (λ z. reserve_at (b.meaning z) (begun (terms_of on_price))) here ∙ ap (λ t. reserve_at c (begun t)) (terms ∙ same_terms);
         opening = issues.opening ∙ ap (λ z. opening_result (b.meaning z) (terms_of on_price)) here ∙ ap (opening_result c) (terms ∙ same_terms);
       }
+
+-- ---- what comes of pricing and issuing in one, once a proposal is placed and deposited on
+module _ {B P : Type 0} {b : BasisGhosts B} {p : PlanGhosts P} (fresh on_place on_deposit : Proposal B P b p) where
+  pub issued_at_least_premium : (basis : B) (plan : P) (start : ℕ) (deposit : ℤ) → fresh.basis.now ≡ basis → terms_of fresh ≡ begins_with (p.payments plan) → Takes fresh (placed_in start (terms_of fresh)) on_place → Takes on_place (deposited deposit (terms_of on_place)) on_deposit → start < (b.meaning basis).states → WithinLimit deposit → (result : Result (Issued B P b p) Fault) → MatchResult result (IssuesAtLeastPremium on_deposit) (NoneOf on_deposit) → IssuesOn basis plan start deposit result
+  issued_at_least_premium basis plan start deposit on begins placed laid inside range (Ok made) issued =
+      is_issued fresh on_place on_deposit (bearing made.premium on_deposit) basis plan start deposit made.premium made on begins placed laid issued.least (record { same_basis = refl; takes = refl }) issued.issues
+  issued_at_least_premium basis plan start deposit on begins placed laid inside range (Err fault) none =
+      let there : on_deposit.basis.now ≡ basis = ap (λ r. r.now) laid.same_basis ∙ ap (λ r. r.now) placed.same_basis ∙ on in
+      let terms : terms_of on_deposit ≡ terms_at (p.payments plan) start deposit 0 = laid.takes ∙ ap (deposited deposit) (placed.takes ∙ ap (placed_in start) begins) in
+      let here : NoPremium (b.meaning basis) (p.payments on_deposit.plan) on_deposit.start 0 (pos on_deposit.deposit.ticks) fault = subst (λ z. NoPremium (b.meaning z) (p.payments on_deposit.plan) on_deposit.start 0 (pos on_deposit.deposit.ticks) fault) there none in
+      not_priced (b.meaning basis) (p.payments plan) start deposit fault (p.payments on_deposit.plan) on_deposit.start (pos on_deposit.deposit.ticks) (ap (λ t. t.plan) terms) (ap (λ t. t.start) terms) (ap (λ t. t.deposit) terms) inside range here

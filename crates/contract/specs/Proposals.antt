@@ -56,6 +56,14 @@ module _ {B P : Type 0} {b : BasisGhosts B} {p : PlanGhosts P} where
     deposit = pos o.deposit.ticks;
   }
 
+  -- the proposal with another premium
+  abbrev pub bearing : Amount → Proposal B P b p → Proposal B P b p
+  bearing premium o = record o { premium = premium }
+
+  -- the reserve that a contract would be issued with
+  abbrev pub reserve_proposed : Proposal B P b p → ℤ
+  reserve_proposed o = (issued (basis_proposed o) (terms_of o)).books.carried
+
   -- on the same basis it now has these terms
   pub record Takes (old : Proposal B P b p) (terms : Terms) (new : Proposal B P b p) : Type 0 where
     pub same_basis : new.basis ≡ old.basis
@@ -105,3 +113,8 @@ module _ {B P : Type 0} {b : BasisGhosts B} {p : PlanGhosts P} where
     pub premium : made.premium.ticks ≡ (terms_of o).premium
     pub reserve : made.reserve ≡ (issued (basis_proposed o) (terms_of o)).books.carried
     pub opening : made.opening_result ≡ (issued (basis_proposed o) (terms_of o)).books.results
+
+  -- pricing, and issuing at the premium that is found
+  pub record IssuesAtLeastPremium (o : Proposal B P b p) (made : Issued B P b p) : Type 0 where
+    pub least : LeastOf o made.premium.ticks
+    pub issues : Issues (bearing made.premium o) made

@@ -30,8 +30,7 @@ pub fn issue<'a, B: Basis, P: Plan + Drop>(
     let mut proposal = Proposal::new(basis, plan);
     proposal.place(start)?;
     proposal.deposit(deposit)?;
-    let _premium = proposal.price()?;
-    Ok(proposal.issue())
+    proposal.issue_at_least_premium()
 }
 
 // Answers every request in its order.

@@ -1,11 +1,11 @@
 -- The search for the least premium. Assumes nothing.
-use Rattle.std.proofs.Common.{◌≡◌, ℕ, ◌+◌, ◌-◌, ◌*◌, ◌/◌, ◌<◌, ◌^◌, ℤ, ◌<ℤ◌, false, add-one, ap, ◌∙◌, arith}
+use Rattle.std.proofs.Common.{◌≡◌, ℕ, ◌+◌, ◌<◌, ◌≤◌, ℤ, ◌<ℤ◌, false, arith}
 use borrow.Author.Differences.{ints}
 use Rattle.std.specs.Int.Signed.{le_z}
-use Rattle.std.proofs.Math.Nat.{pow-succ'}
+use Rattle.units.specs.Ranges.{limit}
 use Rattle.basis.specs.Transitions.{Transitions}
 use Rattle.plan.specs.Payments.{Payments}
-use Rattle.valuation.specs.Premiums.{Suffices}
+use Rattle.valuation.specs.Premiums.{Suffices, LeastPremium}
 use Rattle.valuation.proofs.Plain.{reserve_never_raised}
 
 -- where a premium does not suffice, no lower one does
@@ -18,8 +18,10 @@ none_up_to c p i t bound premium not lower l suffices =
 pub not_at_most : (a b : ℤ) → le_z a b ≡ false → b <ℤ a
 not_at_most a b above = grind (arith, ints)
 
--- half of what is left to search
-pub halved : (low high left : ℕ) → low < high → high - low < 2 ^ (left + 1) → ((low + high) / 2 - low < 2 ^ left) × (high - ((low + high) / 2 + 1) < 2 ^ left)
-halved low high left some small =
-    let double : 2 ^ (left + 1) ≡ 2 * 2 ^ left = ap (λ n. 2 ^ n) (add-one left) ∙ pow-succ' 2 left in
-    (omega (arith, some, small, double), omega (arith, some, small, double))
+-- above a premium that does not suffice, the next is the least that may
+pub least_above : (c : Transitions) (p : Payments) (i t : ℕ) (bound : ℤ) (low high : ℕ) → (Suffices c p i t bound low → ⊥) → high ≤ low + 1 → high ≤ limit → Suffices c p i t bound high → LeastPremium c p i t bound high
+least_above c p i t bound low high not next in_range suffices = record {
+  in_range = in_range;
+  suffices = suffices;
+  no_lower = λ lower l. none_up_to c p i t bound low not lower (omega (arith, l, next));
+}

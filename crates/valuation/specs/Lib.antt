@@ -1,3 +1,4 @@
+pub mod Brackets
 pub mod Closings
 pub mod Comparisons
 pub mod Courses

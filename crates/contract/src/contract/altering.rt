@@ -12,7 +12,7 @@ use basis::Basis;
 use plan::Plan;
 use units::fault::Fault;
 use units::rule::Rule;
-use valuation::pricing::least_premium;
+use valuation::pricing::price;
 
 impl<'a, B: Basis, P: Plan + Drop> Contract<'a, B, P> {
     // Goes on under a new plan, at the least premium that the reserve covers.
@@ -24,19 +24,18 @@ impl<'a, B: Basis, P: Plan + Drop> Contract<'a, B, P> {
         ensures promise { Promise (basis_of self.old) mean_ends mean }
     {
         let before = self.reserve();
-        let premium = least_premium(self.basis, &plan, self.state, self.year, before)?;
+        let priced = price(self.basis, &plan, self.state, self.year, before)?;
         if self.number >= LAST_NUMBER {
             return Err(self.fault(Rule::NumberLeft));
         }
         self.plan = plan;
-        self.premium = premium;
+        self.premium = priced.premium;
         self.number += 1;
-        let reserve = self.reserve();
         Ok(Altered {
             number: self.number,
-            premium,
-            result: before - reserve,
-            reserve,
+            premium: priced.premium,
+            result: before - priced.reserve,
+            reserve: priced.reserve,
         })
     }
 }

@@ -1,6 +1,6 @@
-use Rattle.std.proofs.Common.{◌≡◌, rules, refl, pos, ap, ◌∙◌, Err, w64, to_z, of_z}
+use Rattle.std.proofs.Common.{◌≡◌, rules, ap, Err, w64, to_z, of_z}
 use Rattle.contract.specs.Standings.{NotIssued}
-use Rattle.contract.proofs.Issuing.{not_placed, not_deposited, not_priced, is_issued}
+use Rattle.contract.proofs.Issuing.{not_placed, not_deposited, issued_at_least_premium}
 use Rattle.contract.proofs.Promised.{promised_in_the_mean}
 use Rattle.contract.proofs.run.issue.Goals as goal
 
@@ -19,26 +19,11 @@ returns-in_err-deposit-clause-answer g c =
     let outcome : c.from_residual-in_err-deposit.result ≡ Err c.in_err-deposit.field-0.0 = Prim.search rules in
     rw outcome refused
 
-pub returns-in_err-_premium-clause-answer : goal.returns-in_err-_premium-clause-answer
-returns-in_err-_premium-clause-answer g c =
-    let p = g.P.Plan.payments in
-    let begun = c.new-proposal.ensures.terms in
-    let placed = c.in_ok-place.ensures.1.takes in
-    let deposited = c.in_ok-deposit.ensures.1.takes in
-    let same : p c.deposit.new.self.plan ≡ p c.args.plan = ap (λ x. x.plan) deposited ∙ ap (λ x. x.plan) placed ∙ ap (λ x. x.plan) begun in
-    let at : c.deposit.new.self.start ≡ c.args.start = ap (λ x. x.start) deposited ∙ ap (λ x. x.start) placed in
-    let taken : pos c.deposit.new.self.deposit.ticks ≡ to_z w64 (of_z w64 c.args.deposit) = ap (λ x. x.deposit) deposited in
-    let back : to_z w64 (of_z w64 c.args.deposit) ≡ c.args.deposit = Prim.search rules in
-    let bound : pos c.deposit.new.self.deposit.ticks ≡ c.args.deposit = taken ∙ back in
-    let refused : NotIssued (g.B.Basis.meaning c.args.basis.now) (p c.args.plan) c.args.start c.args.deposit c.in_err-_premium.field-0.0 = not_priced _ _ _ _ _ (p c.deposit.new.self.plan) c.deposit.new.self.start (pos c.deposit.new.self.deposit.ticks) same at bound (Prim.search rules) (Prim.search rules) (Prim.search rules) in
-    let outcome : c.from_residual-in_err-_premium.result ≡ Err c.in_err-_premium.field-0.0 = Prim.search rules in
-    rw outcome refused
-
 pub returns-clause-answer : goal.returns-clause-answer
 returns-clause-answer g c =
     let back : to_z w64 (of_z w64 c.args.deposit) ≡ c.args.deposit = Prim.search rules in
-    is_issued c.new-proposal.result c.place.new.self c.deposit.new.self c.price.new.self c.args.basis.now c.args.plan c.args.start c.args.deposit c.in_ok-_premium._premium c.issue.result
-    (Prim.search rules) c.new-proposal.ensures.terms c.in_ok-place.ensures.1 (rw back at c.in_ok-deposit.ensures.1) c.in_ok-_premium.ensures.0 c.in_ok-_premium.ensures.1 c.issue.ensures.issues
+    issued_at_least_premium c.new-proposal.result c.place.new.self c.deposit.new.self c.args.basis.now c.args.plan c.args.start c.args.deposit
+    (Prim.search rules) c.new-proposal.ensures.terms c.in_ok-place.ensures.1 (rw back at c.in_ok-deposit.ensures.1) (Prim.search rules) (Prim.search rules) c.issue_at_least_premium.result c.issue_at_least_premium.ensures
 
 pub returns-in_err-place-clause-promise : goal.returns-in_err-place-clause-promise
 returns-in_err-place-clause-promise g c = promised_in_the_mean (g.B.Basis.meaning c.args.basis.now) (g.met.B.Basis.lawful c.args.basis.now)
@@ -46,5 +31,5 @@ returns-in_err-place-clause-promise g c = promised_in_the_mean (g.B.Basis.meanin
 pub returns-in_err-deposit-clause-promise : goal.returns-in_err-deposit-clause-promise
 returns-in_err-deposit-clause-promise g c = promised_in_the_mean (g.B.Basis.meaning c.args.basis.now) (g.met.B.Basis.lawful c.args.basis.now)
 
-pub returns-in_err-_premium-clause-promise : goal.returns-in_err-_premium-clause-promise
-returns-in_err-_premium-clause-promise g c = promised_in_the_mean (g.B.Basis.meaning c.args.basis.now) (g.met.B.Basis.lawful c.args.basis.now)
+pub returns-clause-promise : goal.returns-clause-promise
+returns-clause-promise g c = promised_in_the_mean (g.B.Basis.meaning c.args.basis.now) (g.met.B.Basis.lawful c.args.basis.now)

@@ -1,17 +1,6 @@
-use Rattle.std.proofs.Common.{rules, arith}
-use Rattle.std.proofs.lemmas.Int.{ints}
+use Rattle.contract.specs.Proposals.{basis_proposed}
+use Rattle.contract.proofs.Promised.{promised_in_the_mean}
 use Rattle.contract.proofs.proposal.Proposal.issue.Goals as goal
 
-pub returns-clause-issues : goal.returns-clause-issues
-returns-clause-issues g c = record {
-  same_basis = Prim.search rules;
-  are_terms = record {
-    start_in_basis = c.args.self.start_in_basis;
-    deposit_range = record { low = omega (arith, ints); high = omega (arith, ints, c.args.self.deposit.range) };
-    premium_range = c.args.self.premium.range;
-  };
-  stands = Prim.search rules;
-  premium = Prim.search rules;
-  reserve = Prim.search rules;
-  opening = Prim.search rules;
-}
+pub returns-clause-promise : goal.returns-clause-promise
+returns-clause-promise g c = promised_in_the_mean (basis_proposed c.args.self) (g.met.B.Basis.lawful c.args.self.basis.now)
