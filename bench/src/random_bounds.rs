@@ -26,8 +26,8 @@ pub fn least_premium(contract: &Contract, bound: i64) -> i64 {
 }
 
 impl Random {
-    // The reserve at a premium below the limit, which is as often a usual one as any. As a bound
-    // it may have the least premium 0: where no premium changes the reserve, all do.
+    // The reserve at a premium below the limit, which is as often a usual one as any. It is no such
+    // bound where no premium up to that one changes the reserve.
     fn bound(&mut self, contract: &Contract) -> Option<i64> {
         let most = [LIMIT - 1, USUAL_PREMIUM][self.count(0, 1)];
         let question = Question::Reserves {

@@ -5,10 +5,12 @@ use crate::random::Random;
 use crate::random_bounds::least_premium;
 use crate::timing::{self, Work};
 
-// A round has enough sweeps to go through so many shares, and takes a fraction of the time after
-// which other programs get their turn.
+// A round has enough sweeps to go through so many shares, and as many that the first, which finds
+// nothing at hand, weighs little. It takes a fraction of the time after which other programs get
+// their turn.
 const ROUND_SHARES: usize = 4_000;
-const ROUNDS: usize = 101;
+const ROUND_SWEEPS: usize = 4;
+const ROUNDS: usize = 51;
 
 // How many contracts are counted at each size, and of random sizes. Those have enough years for a
 // sweep to outweigh what a search does besides.
@@ -60,7 +62,9 @@ fn halvings(least: i64) -> usize {
 
 // Counts the sweeps of the search for one bound, against sweeps at the premium that is found.
 fn count_one(contract: &Contract, bound: i64) -> Sweeps {
-    let pieces = ROUND_SHARES.div_ceil(contract.shares.len());
+    let pieces = ROUND_SHARES
+        .div_ceil(contract.shares.len())
+        .max(ROUND_SWEEPS);
     let least = least_premium(contract, bound);
     let (bounds, premiums) = (vec![bound; pieces], vec![least; pieces]);
     let multiple = timing::multiple(contract, &pricings(&bounds), &sweeps(&premiums), ROUNDS);

@@ -38,7 +38,7 @@ const TABLES: [Table; 4] = [
     },
     Table {
         heading: "One course, from year 0 at a premium",
-        pieces: [20, 50, 50],
+        pieces: [10, 10, 10],
         entries: premiums,
         work: courses,
     },
