@@ -8,9 +8,12 @@ mod plain;
 mod program;
 mod question;
 mod random;
+mod random_bounds;
 mod random_inputs;
+mod random_portfolio;
 mod random_sheets;
 mod sheet;
+mod sweeps;
 mod tables;
 mod timing;
 

@@ -9,8 +9,9 @@ use std::time::{Duration, Instant};
 
 pub const ROUNDS: usize = 400;
 
-// The same for whole inputs, of which one takes long.
+// The same for whole inputs, of which one takes long, and for those of many contracts.
 pub const INPUT_ROUNDS: usize = 10;
+pub const PORTFOLIO_ROUNDS: usize = 40;
 
 // What a round asks for many pieces of work, and what it asks for none: all else that a call does,
 // as taking columns in, is in both.
@@ -66,20 +67,55 @@ fn best<const N: usize>(rounds: usize, mut round: impl FnMut() -> [Duration; N])
     best
 }
 
-pub fn compare(contract: &Contract, work: &Work) -> Times {
-    let most = work.all.iter().map(|question| question.places(contract));
-    let mut places = vec![0; most.max().unwrap_or(0)];
-    let best = best(ROUNDS, || {
-        [
-            time(engine::answer, contract, &work.all, &mut places),
-            time(plain::answer, contract, &work.all, &mut places),
-            time(engine::answer, contract, &work.none, &mut places),
-            time(plain::answer, contract, &work.none, &mut places),
-        ]
-    });
+// All of a work on both sides, and none of it on both sides.
+fn round(contract: &Contract, work: &Work, places: &mut [i64]) -> [Duration; 4] {
+    [
+        time(engine::answer, contract, &work.all, places),
+        time(plain::answer, contract, &work.all, places),
+        time(engine::answer, contract, &work.none, places),
+        time(plain::answer, contract, &work.none, places),
+    ]
+}
+
+fn times(round: [Duration; 4], work: &Work) -> Times {
     Times {
-        engine: piece(best[0], best[2], work.pieces),
-        plain: piece(best[1], best[3], work.pieces),
+        engine: piece(round[0], round[2], work.pieces),
+        plain: piece(round[1], round[3], work.pieces),
+    }
+}
+
+// Places for all answers of a work.
+fn places(contract: &Contract, work: &Work) -> Vec<i64> {
+    let most = work.all.iter().map(|question| question.places(contract));
+    vec![0; most.max().unwrap_or(0)]
+}
+
+pub fn compare(contract: &Contract, work: &Work) -> Times {
+    let mut places = places(contract, work);
+    let best = best(ROUNDS, || round(contract, work, &mut places));
+    times(best, work)
+}
+
+fn median(mut numbers: Vec<f64>) -> f64 {
+    numbers.sort_by(f64::total_cmp);
+    numbers[numbers.len() / 2]
+}
+
+// A piece of one work as a multiple of a piece of another: the median of so many rounds, each of
+// which times both. So what slows a stretch of rounds slows both, and a few that are cut short by
+// other programs do not count.
+pub fn multiple(contract: &Contract, work: &Work, unit: &Work, rounds: usize) -> Times {
+    let (mut work_places, mut unit_places) = (places(contract, work), places(contract, unit));
+    let mut multiples = (Vec::new(), Vec::new());
+    for _ in 0..rounds {
+        let of_work = times(round(contract, work, &mut work_places), work);
+        let of_unit = times(round(contract, unit, &mut unit_places), unit);
+        multiples.0.push(of_work.engine / of_unit.engine);
+        multiples.1.push(of_work.plain / of_unit.plain);
+    }
+    Times {
+        engine: median(multiples.0),
+        plain: median(multiples.1),
     }
 }
 
@@ -123,8 +159,8 @@ fn time_input(program: &Program, input: &[u8]) -> [Duration; 2] {
 }
 
 // An input against an empty one, which starts and ends the program too.
-pub fn compare_answers(program: &Program, input: &[u8]) -> Times {
-    let best = best(INPUT_ROUNDS, || {
+pub fn compare_answers(program: &Program, input: &[u8], rounds: usize) -> Times {
+    let best = best(rounds, || {
         let [engine, plain] = time_input(program, input);
         let [engine_none, plain_none] = time_input(program, b"");
         [engine, plain, engine_none, plain_none]
