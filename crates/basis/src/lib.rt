@@ -8,8 +8,6 @@ mod fill;
 pub mod life;
 pub mod shift;
 pub mod table;
-#[cfg(test)]
-mod tests;
 
 // What every basis answers, for any year and state. Shares and factors are parts of a million.
 pub trait Basis {

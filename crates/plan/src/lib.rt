@@ -8,8 +8,6 @@ pub mod annuity;
 pub mod endowment;
 mod paying;
 pub mod table;
-#[cfg(test)]
-mod tests;
 
 // What every plan answers, for any year and state. Amounts are ticks.
 pub trait Plan {

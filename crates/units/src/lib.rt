@@ -10,8 +10,6 @@ pub mod francs;
 pub mod premium;
 pub mod rounding;
 pub mod rule;
-#[cfg(test)]
-mod tests;
 mod unpadded;
 
 // The most states and years that a basis or a plan can speak of.

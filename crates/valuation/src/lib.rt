@@ -16,8 +16,6 @@ pub mod pricing;
 pub mod reserve;
 pub mod span;
 mod sweep;
-#[cfg(test)]
-mod tests;
 mod year;
 
 use basis::Basis;

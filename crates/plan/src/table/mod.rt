@@ -5,8 +5,6 @@ ghost use Rattle.plan.specs.PaymentColumns.{FitSize, amount_entry, mark_entry};
 mod check;
 mod make;
 mod plan;
-#[cfg(test)]
-mod tests;
 
 use units::amount::Amount;
 

@@ -1,7 +1,7 @@
 // The lines of sheets and commands, taken apart.
-use super::Line;
-use crate::part::Part;
-use crate::spot::Spot;
+use sheet::line::Line;
+use sheet::part::Part;
+use sheet::spot::Spot;
 use units::fault::{Fault, Layer, Place};
 
 // A field's bytes and its offset.

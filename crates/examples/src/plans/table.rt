@@ -1,7 +1,7 @@
 // A table at the edges of its rules.
-use super::PaymentTable;
-use crate::Plan;
-use crate::tests::refused;
+use super::refused;
+use plan::Plan;
+use plan::table::PaymentTable;
 use std::test::Fail;
 
 #[test]

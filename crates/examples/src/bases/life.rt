@@ -1,14 +1,9 @@
 // A life table at the edges of its rules, and an age shift over it.
-use crate::Basis;
-use crate::life::LifeTable;
-use crate::shift::AgeShift;
+use super::refused;
+use basis::Basis;
+use basis::life::LifeTable;
+use basis::shift::AgeShift;
 use std::test::Fail;
-use units::fault::{Fault, Layer};
-
-// What a basis is refused with. The plans have a like one, since crates share no code of their tests.
-pub(crate) fn refused(number: u8, year: usize, state: usize) -> Result<(), Fault> {
-    Err(Fault::at_entry(number, Layer::Basis, year, state))
-}
 
 #[test]
 fn takes_in_what_is_fit(rt: HostRuntime) -> Result<(), Fail> {

@@ -1,10 +1,10 @@
 // Streams that take and give little at a time, are interrupted and fail.
-use crate::input::read_up_to;
-use crate::output::write_whole;
 use std::io;
 use std::io::{ErrorKind, Read, Write};
 use std::process::Abort;
 use std::test::Fail;
+use streams::input::read_up_to;
+use streams::output::write_whole;
 
 // Gives a byte at a time and is interrupted before each. At its end it fails, if it is broken.
 #[derive(Drop)]

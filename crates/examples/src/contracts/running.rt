@@ -1,9 +1,9 @@
 // Cases that are run.
 use super::{died, fault, lived, two_years};
-use crate::answer::{Altered, Answer, Closed, Left};
-use crate::case::{Case, End, Run};
-use crate::request::Request;
-use crate::run::run;
+use contract::answer::{Altered, Answer, Closed, Left};
+use contract::case::{Case, End, Run};
+use contract::request::Request;
+use contract::run::run;
 use plan::endowment::Endowment;
 use std::test::Fail;
 use units::failure::Failure;

@@ -1,8 +1,8 @@
 // A table at the edges of its rules.
-use super::TransitionTable;
-use crate::Basis;
-use crate::shift::AgeShift;
-use crate::tests::refused;
+use super::refused;
+use basis::Basis;
+use basis::shift::AgeShift;
+use basis::table::TransitionTable;
 use std::test::Fail;
 
 // Three states over two years: active, disabled, dead.

@@ -2,9 +2,9 @@
 // dies, an endowment of 1,000,000 ticks costs 900,000, and altering to the same again changes only
 // the number.
 use super::{fault, issued, results};
-use crate::answer::Altered;
-use crate::contract::Contract;
 use basis::life::LifeTable;
+use contract::answer::Altered;
+use contract::contract::Contract;
 use plan::endowment::Endowment;
 use std::process::Abort;
 use std::test::Fail;

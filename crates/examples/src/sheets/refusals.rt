@@ -1,5 +1,5 @@
 // What a sheet is refused with, a table for each rule.
-use super::read;
+use sheet::read::read;
 use std::process::Abort;
 use units::fault::{Fault, Layer, Place};
 

@@ -1,13 +1,8 @@
-// An endowment at the edges of its rules, and what the tests of all plans share.
-use crate::Plan;
-use crate::endowment::Endowment;
+// An endowment at the edges of its rules.
+use super::refused;
+use plan::Plan;
+use plan::endowment::Endowment;
 use std::test::Fail;
-use units::fault::{Fault, Layer};
-
-// The refusal of a plan at a year and a state, whatever was to be made.
-pub(crate) fn refused<T>(year: usize, state: usize) -> Result<T, Fault> {
-    Err(Fault::at_entry(12, Layer::Plan, year, state))
-}
 
 #[test]
 fn refuses_what_is_unfit(rt: HostRuntime) {

@@ -1,7 +1,7 @@
 // An annuity at the edges of its rules.
-use super::Annuity;
-use crate::Plan;
-use crate::tests::refused;
+use super::refused;
+use plan::Plan;
+use plan::annuity::Annuity;
 use std::test::Fail;
 
 #[test]

@@ -1,7 +1,7 @@
 // Sheets that are read into a table.
-use super::read_into;
 use basis::Basis;
 use basis::table::TransitionTable;
+use sheet::table::read_into;
 use std::test::Fail;
 use units::fault::{Fault, Layer, Place};
 

@@ -1,5 +1,5 @@
 // Whole inputs, and what the desk answers to them.
-use super::Session;
+use desk::session::Session;
 use std::alloc::Global;
 use std::process::Abort;
 use std::test::Fail;

@@ -1,6 +1,6 @@
 // Proposals: what they refuse, and what they are issued on.
 use super::{fault, two_years};
-use crate::proposal::Proposal;
+use contract::proposal::Proposal;
 use plan::endowment::Endowment;
 use std::test::Fail;
 

@@ -1,5 +1,5 @@
 // Sheets that are read.
-use super::read;
+use sheet::read::read;
 use std::test::Fail;
 use units::fault::{Fault, Layer, Place};
 

@@ -1,7 +1,7 @@
 // The printed case, call by call.
 use super::{died, fault, issued, lived, two_years};
-use crate::answer::Left;
-use crate::proposal::Proposal;
+use contract::answer::Left;
+use contract::proposal::Proposal;
 use plan::endowment::Endowment;
 use std::test::Fail;
 

@@ -1,12 +1,12 @@
 // Figures at the edges of the rules.
-use crate::amount::{Amount, OutsideLimit};
-use crate::failure::Failure;
-use crate::fault::{Fault, Layer, Place};
-use crate::francs::Francs;
-use crate::premium::Premium;
-use crate::rounding::nearest;
-use crate::rule::{Rule, UnknownRule};
 use std::test::Fail;
+use units::amount::{Amount, OutsideLimit};
+use units::failure::Failure;
+use units::fault::{Fault, Layer, Place};
+use units::francs::Francs;
+use units::premium::Premium;
+use units::rounding::nearest;
+use units::rule::{Rule, UnknownRule};
 
 #[test]
 fn rounds_halves_up(rt: HostRuntime) {

@@ -10,10 +10,10 @@ mod proposing;
 mod running;
 mod undiscounted;
 
-use crate::answer::Closed;
-use crate::contract::Contract;
-use crate::proposal::Proposal;
 use basis::life::LifeTable;
+use contract::answer::Closed;
+use contract::contract::Contract;
+use contract::proposal::Proposal;
 use plan::endowment::Endowment;
 use std::test::Fail;
 use units::fault::{Fault, Layer};

@@ -1,19 +1,19 @@
 // Figures of a case worked by hand: two years, a tenth and a fifth die, a factor of nine tenths,
 // an endowment of 1,000,000 ticks over both years with the premium due in both.
-use crate::closing::{Move, closing_values};
-use crate::course::course;
-use crate::figure::figure;
-use crate::mean::Mean;
-use crate::pricing::least_premium;
-use crate::reserve::reserve;
-use crate::span::ends::Ends;
-use crate::span::span;
-use crate::span::valuation::Span;
 use basis::life::LifeTable;
 use plan::endowment::Endowment;
 use std::test::Fail;
 use units::fault::{Fault, Layer};
 use units::premium::Premium;
+use valuation::closing::{Move, closing_values};
+use valuation::course::course;
+use valuation::figure::figure;
+use valuation::mean::Mean;
+use valuation::pricing::least_premium;
+use valuation::reserve::reserve;
+use valuation::span::ends::Ends;
+use valuation::span::span;
+use valuation::span::valuation::Span;
 
 fn table_of(rt: &HostRuntime) -> Result<LifeTable, Fail> {
     let mut table = LifeTable::new(rt.alloc())?;

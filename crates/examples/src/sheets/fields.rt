@@ -1,6 +1,6 @@
 // The numbers of fields, and the first line of a text.
-use super::Part;
-use crate::spot::Spot;
+use sheet::part::Part;
+use sheet::spot::Spot;
 use units::fault::{Fault, Layer, Place};
 
 fn unfit() -> Fault {

@@ -1,5 +1,5 @@
 // Lines that are commands, and what others are refused with.
-use super::{Command, command_of};
+use desk::command::{Command, command_of};
 use plan::endowment::Endowment;
 use sheet::part::Part;
 use std::process::Abort;
