@@ -24,6 +24,11 @@ fn check(rt: &impl Abort, number: u8, layer: Layer, cases: &[(&str, usize)]) {
     }
 }
 
+fn is_read(rt: &impl Abort, text: &str, command: Command) {
+    let line = Part::new(text.as_bytes());
+    assert_eq!(rt; command_of(line, 3), Ok(command), "{text}");
+}
+
 #[test]
 fn reads_each_command(rt: HostRuntime) -> Result<(), Fail> {
     let most = Endowment::new(10_000_000_000, 3, 3)?;
@@ -33,13 +38,17 @@ fn reads_each_command(rt: HostRuntime) -> Result<(), Fail> {
         ("Q;0;1;0;0", least, 0),
     ];
     for (text, plan, deposit) in issues {
-        let command = command_of(Part::new(text.as_bytes()), 3)?;
-        assert_eq!(rt; command, Command::Issue { plan, deposit }, "{text}");
+        is_read(&rt, text, Command::Issue { plan, deposit });
     }
     for (text, plan) in [("A;10000000000;3;3", most), ("A;0;1;0", least)] {
-        let command = command_of(Part::new(text.as_bytes()), 3)?;
-        assert_eq!(rt; command, Command::Alter { plan }, "{text}");
+        is_read(&rt, text, Command::Alter { plan });
     }
+    is_read(&rt, "L", Command::Leave);
+    Ok(())
+}
+
+#[test]
+fn reads_each_closing(rt: HostRuntime) {
     let closings = [
         ("C;0;0", 0, 0),
         ("C;7;-1", 7, -1),
@@ -48,12 +57,8 @@ fn reads_each_command(rt: HostRuntime) -> Result<(), Fail> {
         ("C;1;-99999999999", 1, -99_999_999_999),
     ];
     for (text, state, rate) in closings {
-        let command = command_of(Part::new(text.as_bytes()), 3)?;
-        assert_eq!(rt; command, Command::Close { state, rate }, "{text}");
+        is_read(&rt, text, Command::Close { state, rate });
     }
-    let command = command_of(Part::new(b"L"), 3)?;
-    assert_eq!(rt; command, Command::Leave);
-    Ok(())
 }
 
 #[test]

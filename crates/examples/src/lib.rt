@@ -1,5 +1,5 @@
 // Examples with answers from outside: cases worked by hand, printed figures, and arguments at the
-// edges of the rules. They are tests alone, and stand here because a crate with tests is proved twice.
+// edges of the rules. A crate with tests is proved twice, so the tests of all libraries stand here.
 #![tactic(auto)]
 
 #[cfg(test)]

@@ -1,4 +1,6 @@
 // Figures at the edges of the rules.
+use std::alloc::Global;
+use std::process::Abort;
 use std::test::Fail;
 use units::amount::{Amount, OutsideLimit};
 use units::failure::Failure;
@@ -43,6 +45,34 @@ fn amounts_lie_from_nought_to_the_limit(rt: HostRuntime) -> Result<(), Fail> {
     }
     let outside = OutsideLimit(-1).to_string(rt.alloc())?;
     assert!(rt; outside.as_str() == "an amount is outside 0 to the limit");
+    Ok(())
+}
+
+// A rule by its number, and the faults that are its breach, in these words.
+fn is_told(
+    rt: &impl Abort,
+    heap: Global,
+    number: u8,
+    rule: Rule,
+    layer: Layer,
+    words: &str,
+) -> Result<(), Fail> {
+    assert_eq!(rt; Rule::try_from(number), Ok(rule));
+    let fault = Fault::at_entry(number, layer, 7, 3);
+    assert_eq!(rt; Fault::breach(rule, 7, 3), fault);
+    let place = Place::Text { line: 7, offset: 3 };
+    assert_eq!(rt;
+        Fault::in_text(rule, 7, 3),
+        Fault {
+            number,
+            layer,
+            place
+        }
+    );
+    let told = fault.to_string(heap)?;
+    assert!(rt; told.as_str().ends_with(words));
+    let shown = rule.to_string(heap)?;
+    assert!(rt; shown.as_str() == words);
     Ok(())
 }
 
@@ -178,22 +208,7 @@ fn rules_go_by_their_numbers(rt: HostRuntime) -> Result<(), Fail> {
         ),
     ];
     for (number, rule, layer, words) in cases {
-        assert_eq!(rt; Rule::try_from(number), Ok(rule));
-        let fault = Fault::at_entry(number, layer, 7, 3);
-        assert_eq!(rt; Fault::breach(rule, 7, 3), fault);
-        let place = Place::Text { line: 7, offset: 3 };
-        assert_eq!(rt;
-            Fault::in_text(rule, 7, 3),
-            Fault {
-                number,
-                layer,
-                place
-            }
-        );
-        let told = fault.to_string(rt.alloc())?;
-        assert!(rt; told.as_str().ends_with(words));
-        let shown = rule.to_string(rt.alloc())?;
-        assert!(rt; shown.as_str() == words);
+        is_told(&rt, rt.alloc(), number, rule, layer, words)?;
     }
     assert_eq!(rt; Rule::try_from(0), Err(UnknownRule(0)));
     assert_eq!(rt; Rule::try_from(23), Err(UnknownRule(23)));

@@ -3,6 +3,8 @@ use desk::session::Session;
 use std::alloc::Global;
 use std::process::Abort;
 use std::test::Fail;
+use streams::input::read_input;
+use streams::output::write_whole;
 
 // Ten lines of 122 bytes: commands begin at line 11, offset 122. No move leads from state 1 to
 // state 0.
@@ -57,25 +59,6 @@ fn answers_one_input_after_another(rt: HostRuntime) -> Result<(), Fail> {
 #[test]
 fn answers_nothing_without_commands(rt: HostRuntime) -> Result<(), Fail> {
     check(&rt, rt.alloc(), &[("", "")])
-}
-
-#[test]
-fn reads_up_to_60_000_bytes(rt: HostRuntime) -> Result<(), Fail> {
-    // Read to the line without a line feed, behind a command that is answered.
-    let mut input = Vec::new(rt.alloc());
-    input.extend_from_slice(SHEET.as_bytes())?;
-    input.extend_from_slice(b"Q;1000000;2;2;0\n")?;
-    let rest = [b'1'].repeat(rt.alloc(), 60_000 - 138)?;
-    input.extend_from_slice(&rest)?;
-    assert_eq!(rt; input.len(), 60_000);
-    let mut session = Session::new(rt.alloc())?;
-    assert_eq!(rt;
-        session.answer(&input),
-        "issue;452487;-1;1\nrefused;2;12;138\n"
-    );
-    input.push(b'1')?;
-    assert_eq!(rt; session.answer(&input), "refused;1;1;0\n");
-    Ok(())
 }
 
 // Nothing is answered after a refused sheet.
@@ -218,4 +201,38 @@ fn tells_an_alteration(rt: HostRuntime) -> Result<(), Fail> {
             ),
         ],
     )
+}
+
+// What is read, answered and written behind what was written; and what is left to read.
+fn is_passed_on(
+    rt: &impl Abort,
+    heap: Global,
+    input: &[u8],
+    written: &[u8],
+    left: &[u8],
+) -> Result<(), Fail> {
+    let mut session = Session::new(heap)?;
+    let mut reader = input;
+    let mut writer = Vec::from_slice(heap, b"before\n")?;
+    let read = read_input(heap, &mut reader)?;
+    write_whole(&mut writer, session.answer(&read).as_bytes())?;
+    assert_eq!(rt; writer.as_slice(), written);
+    assert_eq!(rt; reader, left);
+    Ok(())
+}
+
+// Commands up to 60,000 bytes are answered: of the last line, that it does not end. A byte more is
+// refused, and no byte after that is read.
+#[test]
+fn passes_on_60_000_bytes_and_refuses_more(rt: HostRuntime) -> Result<(), Fail> {
+    let mut input = Vec::new(rt.alloc());
+    input.extend_from_slice(SHEET.as_bytes())?;
+    input.extend_from_slice(b"Q;1000000;2;2;0\n")?;
+    let rest = [b'1'].repeat(rt.alloc(), 60_000 - 138)?;
+    input.extend_from_slice(&rest)?;
+    let answer = b"before\nissue;452487;-1;1\nrefused;2;12;138\n";
+    is_passed_on(&rt, rt.alloc(), &input, answer, b"")?;
+    input.extend_from_slice(b"123")?;
+    is_passed_on(&rt, rt.alloc(), &input, b"before\nrefused;1;1;0\n", b"23")?;
+    is_passed_on(&rt, rt.alloc(), b"L\n", b"before\nrefused;3;1;0\n", b"")
 }

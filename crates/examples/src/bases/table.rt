@@ -1,6 +1,5 @@
 // A table at the edges of its rules.
-use super::refused;
-use basis::Basis;
+use super::{answers, refused};
 use basis::shift::AgeShift;
 use basis::table::TransitionTable;
 use std::test::Fail;
@@ -42,43 +41,29 @@ fn refuses_unfit_numbers_and_lengths(rt: HostRuntime) -> Result<(), Fail> {
 #[test]
 fn refuses_the_first_entry_out_of_range(rt: HostRuntime) -> Result<(), Fail> {
     let mut table = TransitionTable::new(rt.alloc())?;
-    assert_eq!(rt; table.take_in(2, 2, &[1, 0], &[0; 8]), refused(10, 1, 0));
-    assert_eq!(rt;
-        table.take_in(2, 2, &[1_000_001, 0], &[0; 8]),
-        refused(10, 0, 0)
-    );
-    let rows = [
-        (
-            [0, 1_000_000, 500_000, 500_000, 1_000_000, 0, 0, 1_000_000],
-            Ok(()),
-        ),
-        (
-            [0, 999_999, 1_000_000, 0, 1_000_000, 0, 0, 1_000_000],
-            refused(11, 0, 0),
-        ),
-        (
-            [1_000_000, 0, 500_000, 500_001, 1_000_000, 1, 0, 0],
-            refused(11, 0, 1),
-        ),
-        (
-            [1_000_000, 0, 0, 1_000_000, 1_000_001, -1, 0, 0],
-            refused(11, 1, 0),
-        ),
-        (
-            [1_000_000, 0, 0, 1_000_000, 0, 1_000_000, 0, 0],
-            refused(11, 1, 1),
-        ),
-        (
-            [1_000_000, 0, 0, 1_000_000, i64::MAX, i64::MAX, 2, 0],
-            refused(11, 1, 0),
-        ),
-        (
-            [i64::MIN, i64::MIN, 1_000_000, 0, 0, 0, 0, 0],
-            refused(11, 0, 0),
-        ),
+    // factors and the year of the fault
+    for (factors, year) in [([1, 0], 1), ([1_000_001, 0], 0)] {
+        assert_eq!(rt;
+            table.take_in(2, 2, &factors, &[0; 8]),
+            refused(10, year, 0)
+        );
+    }
+    let fit = [0, 1_000_000, 500_000, 500_000, 1_000_000, 0, 0, 1_000_000];
+    assert_eq!(rt; table.take_in(2, 2, &[1, 1_000_000], &fit), Ok(()));
+    // shares, and the year and the state of the fault
+    let unlawful = [
+        ([0, 999_999, 1_000_000, 0, 1_000_000, 0, 0, 1_000_000], 0, 0),
+        ([1_000_000, 0, 500_000, 500_001, 1_000_000, 1, 0, 0], 0, 1),
+        ([1_000_000, 0, 0, 1_000_000, 1_000_001, -1, 0, 0], 1, 0),
+        ([1_000_000, 0, 0, 1_000_000, 0, 1_000_000, 0, 0], 1, 1),
+        ([1_000_000, 0, 0, 1_000_000, i64::MAX, i64::MAX, 2, 0], 1, 0),
+        ([i64::MIN, i64::MIN, 1_000_000, 0, 0, 0, 0, 0], 0, 0),
     ];
-    for (shares, answer) in rows {
-        assert_eq!(rt; table.take_in(2, 2, &[1, 1_000_000], &shares), answer);
+    for (shares, year, state) in unlawful {
+        assert_eq!(rt;
+            table.take_in(2, 2, &[1, 1_000_000], &shares),
+            refused(11, year, state)
+        );
     }
     Ok(())
 }
@@ -86,49 +71,23 @@ fn refuses_the_first_entry_out_of_range(rt: HostRuntime) -> Result<(), Fail> {
 #[test]
 fn reads_each_share_at_its_place(rt: HostRuntime) -> Result<(), Fail> {
     let mut table = TransitionTable::new(rt.alloc())?;
-    assert_eq!(rt;
-        (table.states(), table.years(), table.factor(0)),
-        (2, 1, 1_000_000)
-    );
-    assert_eq!(rt;
-        (
-            table.share(0, 0, 0),
-            table.share(0, 1, 0),
-            table.share(1, 1, 0),
-        ),
-        (1_000_000, 0, 1_000_000)
-    );
+    let shares = [(0, 0, 0, 1_000_000), (0, 1, 0, 0), (1, 1, 0, 1_000_000)];
+    answers(&rt, &table, (2, 1), &[(0, 1_000_000)], &shares);
     assert_eq!(rt; table.take_in(3, 2, &FACTORS, &SHARES), Ok(()));
     assert_eq!(rt; table.take_in(3, 2, &FACTORS, &[0; 18]), refused(11, 0, 0));
-    assert_eq!(rt; (table.states(), table.years()), (3, 2));
-    assert_eq!(rt;
-        (table.factor(0), table.factor(1), table.factor(2)),
-        (970_000, 960_000, 1_000_000)
-    );
-    assert_eq!(rt;
-        (
-            table.share(0, 1, 0),
-            table.share(1, 0, 0),
-            table.share(2, 2, 0),
-        ),
-        (70_000, 200_000, 1_000_000)
-    );
-    assert_eq!(rt;
-        (
-            table.share(0, 1, 1),
-            table.share(1, 0, 1),
-            table.share(1, 2, 1),
-        ),
-        (80_000, 150_000, 60_000)
-    );
-    assert_eq!(rt;
-        (
-            table.share(3, 0, 0),
-            table.share(0, 3, 0),
-            table.share(0, 0, 2),
-        ),
-        (0, 0, 0)
-    );
+    let factors = [(0, 970_000), (1, 960_000), (2, 1_000_000)];
+    let shares = [
+        (0, 1, 0, 70_000),
+        (1, 0, 0, 200_000),
+        (2, 2, 0, 1_000_000),
+        (0, 1, 1, 80_000),
+        (1, 0, 1, 150_000),
+        (1, 2, 1, 60_000),
+        (3, 0, 0, 0),
+        (0, 3, 0, 0),
+        (0, 0, 2, 0),
+    ];
+    answers(&rt, &table, (3, 2), &factors, &shares);
     Ok(())
 }
 
@@ -137,14 +96,8 @@ fn takes_in_eight_states_and_120_years(rt: HostRuntime) -> Result<(), Fail> {
     let mut table = TransitionTable::new(rt.alloc())?;
     let shares = [1_000_000, 0, 0, 0, 0, 0, 0, 0].repeat(rt.alloc(), 960)?;
     assert_eq!(rt; table.take_in(8, 120, &[1; 120], &shares), Ok(()));
-    assert_eq!(rt;
-        (
-            table.share(7, 0, 119),
-            table.share(7, 7, 119),
-            table.share(7, 0, 120),
-        ),
-        (1_000_000, 0, 0)
-    );
+    let shares = [(7, 0, 119, 1_000_000), (7, 7, 119, 0), (7, 0, 120, 0)];
+    answers(&rt, &table, (8, 120), &[], &shares);
     Ok(())
 }
 
@@ -152,16 +105,8 @@ fn takes_in_eight_states_and_120_years(rt: HostRuntime) -> Result<(), Fail> {
 fn is_entered_at_a_later_age(rt: HostRuntime) -> Result<(), Fail> {
     let mut table = TransitionTable::new(rt.alloc())?;
     table.take_in(3, 2, &FACTORS, &SHARES)?;
-    let shift = AgeShift::new(table, 1);
-    assert_eq!(rt; (shift.states(), shift.years()), (3, 1));
-    assert_eq!(rt; (shift.factor(0), shift.factor(1)), (960_000, 1_000_000));
-    assert_eq!(rt;
-        (
-            shift.share(0, 1, 0),
-            shift.share(1, 0, 0),
-            shift.share(0, 1, 1),
-        ),
-        (80_000, 150_000, 0)
-    );
+    let factors = [(0, 960_000), (1, 1_000_000)];
+    let shares = [(0, 1, 0, 80_000), (1, 0, 0, 150_000), (0, 1, 1, 0)];
+    answers(&rt, &AgeShift::new(table, 1), (3, 1), &factors, &shares);
     Ok(())
 }

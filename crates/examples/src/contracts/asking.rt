@@ -1,6 +1,5 @@
 // Questions, which change nothing.
-use super::{fault, issued, results, two_years};
-use plan::endowment::Endowment;
+use super::{closes, fault, two_years, worked};
 use std::test::Fail;
 use valuation::mean::Mean;
 use valuation::span::ends::Ends;
@@ -9,7 +8,7 @@ use valuation::span::valuation::Span;
 #[test]
 fn answers_in_every_year(rt: HostRuntime) -> Result<(), Fail> {
     let table = two_years(&rt)?;
-    let mut contract = issued(&table, Endowment::new(1_000_000, 2, 2)?, 0, 0)?;
+    let mut contract = worked(&table)?;
     // reserve, least, greatest, year by year
     let cases = [
         (-1, -49_725, 447_513),
@@ -30,7 +29,7 @@ fn answers_in_every_year(rt: HostRuntime) -> Result<(), Fail> {
 #[test]
 fn writes_the_course_from_its_year(rt: HostRuntime) -> Result<(), Fail> {
     let table = two_years(&rt)?;
-    let mut contract = issued(&table, Endowment::new(1_000_000, 2, 2)?, 0, 0)?;
+    let mut contract = worked(&table)?;
     // how long a column it takes, and what comes of sevens
     let cases = [
         (6, [-1, 0, 447_513, 0, 1_000_000, 0, 7, 7]),
@@ -52,7 +51,7 @@ fn writes_the_course_from_its_year(rt: HostRuntime) -> Result<(), Fail> {
 #[test]
 fn leaves_a_short_column_as_it_was(rt: HostRuntime) -> Result<(), Fail> {
     let table = two_years(&rt)?;
-    let mut contract = issued(&table, Endowment::new(1_000_000, 2, 2)?, 0, 0)?;
+    let mut contract = worked(&table)?;
     // year, state, how long a column it takes, the state at the end of the year
     for (year, state, length, end) in [(0, 0, 6, 0), (1, 0, 4, 1), (2, 1, 2, 1)] {
         for short in [0, 1, length - 1] {
@@ -70,11 +69,11 @@ fn leaves_a_short_column_as_it_was(rt: HostRuntime) -> Result<(), Fail> {
 #[test]
 fn counts_no_question(rt: HostRuntime) -> Result<(), Fail> {
     let table = two_years(&rt)?;
-    let mut contract = issued(&table, Endowment::new(1_000_000, 2, 2)?, 0, 0)?;
+    let mut contract = worked(&table)?;
     let _reserve = contract.reserve();
     let _span = contract.span();
     assert!(rt; contract.course(&mut []).is_err());
     assert!(rt; contract.close(2, 0).is_err());
-    assert_eq!(rt; results(contract.close(0, 120_000)), Ok((1, 4_022, 55_249)));
+    closes(&rt, &mut contract, 0, 120_000, Ok((1, 4_022, 55_249)));
     Ok(())
 }

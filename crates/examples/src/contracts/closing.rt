@@ -1,6 +1,5 @@
 // Closings: the results on interest and on risk, and the refusals in their order.
-use super::{fault, issued, results, two_years};
-use plan::endowment::Endowment;
+use super::{alters, closes, refuses, stands, two_years, worked};
 use std::test::Fail;
 
 // In year 0, W is 452,486 and E 502,762. A quarter of W ends in a half, which goes upwards below
@@ -20,13 +19,9 @@ fn posts_the_results_of_a_year(rt: HostRuntime) -> Result<(), Fail> {
         (1, -250_000, -163_397, -497_238, 0),
     ];
     for (end, rate, interest, risk, reserve) in cases {
-        let mut contract = issued(&table, Endowment::new(1_000_000, 2, 2)?, 0, 0)?;
-        assert_eq!(rt;
-            results(contract.close(end, rate)),
-            Ok((1, interest, risk)),
-            "{end} {rate}"
-        );
-        assert_eq!(rt; contract.reserve(), reserve, "{end} {rate}");
+        let mut contract = worked(&table)?;
+        closes(&rt, &mut contract, end, rate, Ok((1, interest, risk)));
+        stands(&rt, &contract, reserve);
     }
     Ok(())
 }
@@ -36,8 +31,8 @@ fn posts_the_results_of_a_year(rt: HostRuntime) -> Result<(), Fail> {
 #[test]
 fn refuses_the_alive_in_order(rt: HostRuntime) -> Result<(), Fail> {
     let table = two_years(&rt)?;
-    let mut contract = issued(&table, Endowment::new(1_000_000, 2, 2)?, 0, 0)?;
-    let span = contract.span();
+    let mut contract = worked(&table)?;
+    stands(&rt, &contract, -1);
     // end state, rate, number
     let cases = [
         (2, 0, 17),
@@ -48,19 +43,8 @@ fn refuses_the_alive_in_order(rt: HostRuntime) -> Result<(), Fail> {
         (1, i64::MAX, 18),
         (1, i64::MIN, 18),
     ];
-    for (end, rate, number) in cases {
-        assert_eq!(rt;
-            contract.close(end, rate),
-            Err(fault(number, 0, 0)),
-            "{end} {rate}"
-        );
-        assert_eq!(rt;
-            (contract.reserve(), contract.span()),
-            (-1, span),
-            "{end} {rate}"
-        );
-    }
-    assert_eq!(rt; results(contract.close(0, 120_000)), Ok((1, 4_022, 55_249)));
+    refuses(&rt, &mut contract, 0, 0, &cases);
+    closes(&rt, &mut contract, 0, 120_000, Ok((1, 4_022, 55_249)));
     Ok(())
 }
 
@@ -68,8 +52,9 @@ fn refuses_the_alive_in_order(rt: HostRuntime) -> Result<(), Fail> {
 #[test]
 fn refuses_the_dead_in_order(rt: HostRuntime) -> Result<(), Fail> {
     let table = two_years(&rt)?;
-    let mut contract = issued(&table, Endowment::new(1_000_000, 2, 2)?, 0, 0)?;
-    assert!(rt; contract.close(1, 0).is_ok());
+    let mut contract = worked(&table)?;
+    closes(&rt, &mut contract, 1, 0, Ok((1, -50_276, -497_238)));
+    stands(&rt, &contract, 0);
     // end state, rate, number
     let cases = [
         (0, 0, 19),
@@ -77,26 +62,9 @@ fn refuses_the_dead_in_order(rt: HostRuntime) -> Result<(), Fail> {
         (0, 500_000, 19),
         (2, 500_001, 17),
     ];
-    for (end, rate, number) in cases {
-        assert_eq!(rt;
-            contract.close(end, rate),
-            Err(fault(number, 1, 1)),
-            "{end} {rate}"
-        );
-        assert_eq!(rt; contract.reserve(), 0, "{end} {rate}");
-    }
-    assert_eq!(rt; results(contract.close(1, 500_000)), Ok((2, 0, 0)));
-    for (end, rate) in [(1, 0), (0, 0), (0, 500_001), (2, 500_001)] {
-        assert_eq!(rt;
-            contract.close(end, rate),
-            Err(fault(16, 2, 1)),
-            "{end} {rate}"
-        );
-    }
-    let altered = contract.alter(Endowment::new(1, 1, 0)?)?;
-    assert_eq!(rt;
-        (altered.number, altered.premium.ticks(), altered.result),
-        (3, 0, 0)
-    );
-    Ok(())
+    refuses(&rt, &mut contract, 1, 1, &cases);
+    closes(&rt, &mut contract, 1, 500_000, Ok((2, 0, 0)));
+    let cases = [(1, 0, 16), (0, 0, 16), (0, 500_001, 16), (2, 500_001, 16)];
+    refuses(&rt, &mut contract, 2, 1, &cases);
+    alters(&rt, &mut contract, (1, 1, 0), Ok((3, 0, 0)))
 }

@@ -15,8 +15,11 @@ use contract::answer::Closed;
 use contract::contract::Contract;
 use contract::proposal::Proposal;
 use plan::endowment::Endowment;
+use std::process::Abort;
 use std::test::Fail;
 use units::fault::{Fault, Layer};
+
+pub(crate) type EndowmentContract<'a> = Contract<'a, LifeTable, Endowment>;
 
 pub(crate) fn two_years(rt: &HostRuntime) -> Result<LifeTable, Fail> {
     let mut table = LifeTable::new(rt.alloc())?;
@@ -30,7 +33,7 @@ pub(crate) fn issued<'a>(
     plan: Endowment,
     start: usize,
     deposit: i64,
-) -> Result<Contract<'a, LifeTable, Endowment>, Fail> {
+) -> Result<EndowmentContract<'a>, Fail> {
     let mut proposal = Proposal::new(table, plan);
     proposal.place(start)?;
     proposal.deposit(deposit)?;
@@ -38,13 +41,70 @@ pub(crate) fn issued<'a>(
     Ok(proposal.issue().contract)
 }
 
+// Of the case, issued in state 0 with no deposit.
+pub(crate) fn worked(table: &LifeTable) -> Result<EndowmentContract<'_>, Fail> {
+    issued(table, Endowment::new(1_000_000, 2, 2)?, 0, 0)
+}
+
 pub(crate) fn fault(number: u8, year: usize, state: usize) -> Fault {
     Fault::at_entry(number, Layer::Contract, year, state)
 }
 
-// The number of a closing, and its results on interest and on risk.
-pub(crate) fn results(outcome: Result<Closed, Fault>) -> Result<(u16, i64, i64), Fault> {
-    outcome.map(|year| (year.number, year.interest_result, year.risk_result))
+pub(crate) fn stands(rt: &impl Abort, contract: &EndowmentContract<'_>, reserve: i64) {
+    assert_eq!(rt; contract.reserve(), reserve);
+}
+
+// A closing, by its number and its results on interest and on risk.
+pub(crate) fn closes(
+    rt: &impl Abort,
+    contract: &mut EndowmentContract<'_>,
+    end: usize,
+    rate: i64,
+    outcome: Result<(u16, i64, i64), Fault>,
+) {
+    let closed = contract.close(end, rate).map(|year| (
+        year.number,
+        year.interest_result,
+        year.risk_result,
+    ));
+    assert_eq!(rt; closed, outcome, "{end} {rate}");
+}
+
+// Closings that are refused at a year and a state, by end state, rate and number: they change
+// nothing.
+pub(crate) fn refuses(
+    rt: &impl Abort,
+    contract: &mut EndowmentContract<'_>,
+    year: usize,
+    state: usize,
+    cases: &[(usize, i64, u8)],
+) {
+    let before = (contract.reserve(), contract.span());
+    for (end, rate, number) in cases {
+        let refusal = contract.close(*end, *rate);
+        assert_eq!(rt; refusal, Err(fault(*number, year, state)), "{end} {rate}");
+        assert_eq!(rt;
+            (contract.reserve(), contract.span()),
+            before,
+            "{end} {rate}"
+        );
+    }
+}
+
+// An alteration to an endowment of this sum, term and paying years, by its number, premium and
+// result.
+pub(crate) fn alters(
+    rt: &impl Abort,
+    contract: &mut EndowmentContract<'_>,
+    terms: (i64, usize, usize),
+    outcome: Result<(u16, u64, i64), Fault>,
+) -> Result<(), Fail> {
+    let (sum, term, paying) = terms;
+    let altered = contract
+        .alter(Endowment::new(sum, term, paying)?)
+        .map(|year| (year.number, year.premium.ticks(), year.result));
+    assert_eq!(rt; altered, outcome, "{sum} {term} {paying}");
+    Ok(())
 }
 
 // The year in which he lives, at twelve per cent.

@@ -1,10 +1,9 @@
 // The numbers of closings and alterations, up to the last. On a table of one year in which nobody
 // dies, an endowment of 1,000,000 ticks costs 900,000, and altering to the same again changes only
 // the number.
-use super::{fault, issued, results};
+use super::{EndowmentContract, alters, closes, fault, issued, refuses, stands};
 use basis::life::LifeTable;
 use contract::answer::Altered;
-use contract::contract::Contract;
 use plan::endowment::Endowment;
 use std::process::Abort;
 use std::test::Fail;
@@ -19,7 +18,7 @@ fn one_year(rt: &HostRuntime) -> Result<LifeTable, Fail> {
 // Alters a contract that was just issued, up to a number.
 fn alter_up_to(
     rt: &impl Abort,
-    contract: &mut Contract<'_, LifeTable, Endowment>,
+    contract: &mut EndowmentContract<'_>,
     last: u16,
 ) -> Result<(), Fail> {
     let plan = Endowment::new(1_000_000, 1, 1)?;
@@ -41,13 +40,10 @@ fn gives_the_last_number(rt: HostRuntime) -> Result<(), Fail> {
     let table = one_year(&rt)?;
     let mut contract = issued(&table, Endowment::new(1_000_000, 1, 1)?, 0, 0)?;
     alter_up_to(&rt, &mut contract, 9_998)?;
-    assert_eq!(rt; results(contract.close(0, 0)), Ok((9_999, -100_000, 0)));
-    assert_eq!(rt; contract.close(0, 0), Err(fault(16, 1, 0)));
-    assert_eq!(rt;
-        contract.alter(Endowment::new(1_000_000, 1, 1)?),
-        Err(fault(21, 1, 0))
-    );
-    assert_eq!(rt; contract.reserve(), 1_000_000);
+    closes(&rt, &mut contract, 0, 0, Ok((9_999, -100_000, 0)));
+    closes(&rt, &mut contract, 0, 0, Err(fault(16, 1, 0)));
+    alters(&rt, &mut contract, (1_000_000, 1, 1), Err(fault(21, 1, 0)))?;
+    stands(&rt, &contract, 1_000_000);
     Ok(())
 }
 
@@ -58,24 +54,17 @@ fn refuses_once_the_last_number_is_given(rt: HostRuntime) -> Result<(), Fail> {
     alter_up_to(&rt, &mut contract, 9_999)?;
     // end state, rate, number
     let closings = [(2, 500_001, 17), (1, 500_001, 18), (1, 0, 19), (0, 0, 21)];
-    for (end, rate, number) in closings {
-        assert_eq!(rt;
-            contract.close(end, rate),
-            Err(fault(number, 0, 0)),
-            "{end} {rate}"
-        );
+    refuses(&rt, &mut contract, 0, 0, &closings);
+    // terms, number
+    let alterations = [
+        ((1_000_000, 1, 0), 20),
+        ((1_000_000, 1, 1), 21),
+        ((0, 1, 0), 21),
+    ];
+    for (terms, number) in alterations {
+        alters(&rt, &mut contract, terms, Err(fault(number, 0, 0)))?;
     }
-    // sum, paying years, number
-    let alterations = [(1_000_000, 0, 20), (1_000_000, 1, 21), (0, 0, 21)];
-    for (sum, paying, number) in alterations {
-        let plan = Endowment::new(sum, 1, paying)?;
-        assert_eq!(rt;
-            contract.alter(plan),
-            Err(fault(number, 0, 0)),
-            "{sum} {paying}"
-        );
-    }
-    assert_eq!(rt; contract.reserve(), 0);
+    stands(&rt, &contract, 0);
     assert_eq!(rt; (contract.span().least, contract.span().greatest), (0, 0));
     Ok(())
 }

@@ -1,5 +1,5 @@
 // The printed case, call by call.
-use super::{died, fault, issued, lived, two_years};
+use super::{died, fault, lived, stands, two_years, worked};
 use contract::answer::Left;
 use contract::proposal::Proposal;
 use plan::endowment::Endowment;
@@ -15,9 +15,9 @@ fn goes_as_printed(rt: HostRuntime) -> Result<(), Fail> {
     assert_eq!(rt; (issued.reserve, issued.opening_result), (-1, 1));
     let mut contract = issued.contract;
     assert_eq!(rt; contract.close(0, 120_000), Ok(lived()));
-    assert_eq!(rt; contract.reserve(), 447_513);
+    stands(&rt, &contract, 447_513);
     assert_eq!(rt; contract.close(1, -10_000), Ok(died()));
-    assert_eq!(rt; contract.reserve(), 0);
+    stands(&rt, &contract, 0);
     assert_eq!(rt; contract.close(1, 0), Err(fault(16, 2, 1)));
     assert_eq!(rt; contract.leave(), Left { paid: 0, result: 0 });
     Ok(())
@@ -29,7 +29,7 @@ fn pays_on_leaving_only_what_is_above_nought(rt: HostRuntime) -> Result<(), Fail
     // years closed while alive; paid, result
     let cases = [(0, 0, -1), (1, 447_513, 0), (2, 1_000_000, 0)];
     for (years, paid, result) in cases {
-        let mut contract = issued(&table, Endowment::new(1_000_000, 2, 2)?, 0, 0)?;
+        let mut contract = worked(&table)?;
         for _year in 0..years {
             assert!(rt; contract.close(0, 0).is_ok());
         }

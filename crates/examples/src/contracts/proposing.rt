@@ -1,8 +1,25 @@
 // Proposals: what they refuse, and what they are issued on.
 use super::{fault, two_years};
+use basis::life::LifeTable;
 use contract::proposal::Proposal;
 use plan::endowment::Endowment;
+use std::process::Abort;
 use std::test::Fail;
+
+// On this reserve and opening result.
+fn issues(
+    rt: &impl Abort,
+    proposal: Proposal<'_, LifeTable, Endowment>,
+    reserve: i64,
+    opening: i64,
+) {
+    let issued = proposal.issue();
+    assert_eq!(rt;
+        (issued.reserve, issued.opening_result),
+        (reserve, opening),
+        "{reserve} {opening}"
+    );
+}
 
 #[test]
 fn starts_only_in_a_state_of_the_basis(rt: HostRuntime) -> Result<(), Fail> {
@@ -49,12 +66,7 @@ fn takes_deposits_from_nought_to_the_limit(rt: HostRuntime) -> Result<(), Fail> 
         proposal.deposit(5)?;
         let expected = if taken { Ok(()) } else { Err(fault(15, 0, 0)) };
         assert_eq!(rt; proposal.deposit(ticks), expected, "{ticks}");
-        let issued = proposal.issue();
-        assert_eq!(rt;
-            (issued.reserve, issued.opening_result),
-            (819_000, result),
-            "{ticks}"
-        );
+        issues(&rt, proposal, 819_000, result);
     }
     let mut dead = Proposal::new(&table, Endowment::new(1_000_000, 2, 2)?);
     dead.place(1)?;
@@ -85,12 +97,7 @@ fn prices_at_the_least_premium_or_refuses(rt: HostRuntime) -> Result<(), Fail> {
             (Ok(least), Some(ticks)) => assert_eq!(rt; least.ticks(), ticks),
             (refusal, _) => assert_eq!(rt; refusal, Err(fault(20, 0, start))),
         }
-        let issued = proposal.issue();
-        assert_eq!(rt;
-            (issued.reserve, issued.opening_result),
-            (reserve, result),
-            "{paying} {start} {deposit}"
-        );
+        issues(&rt, proposal, reserve, result);
     }
     Ok(())
 }
@@ -102,7 +109,6 @@ fn issues_at_the_premium_that_it_bears(rt: HostRuntime) -> Result<(), Fail> {
     let mut proposal = Proposal::new(&table, Endowment::new(1_000_000, 2, 2)?);
     assert_eq!(rt; proposal.price()?.ticks(), 452_487);
     proposal.deposit(100)?;
-    let issued = proposal.issue();
-    assert_eq!(rt; (issued.reserve, issued.opening_result), (-1, 101));
+    issues(&rt, proposal, -1, 101);
     Ok(())
 }

@@ -3,7 +3,7 @@ ghost use Rattle.std.proofs.Common.{rules};
 ghost use Rattle.valuation.specs.Means.{mean, mean_ends};
 ghost use Rattle.valuation.specs.Orders.{mean_ordered, mean_told_by_ends};
 
-use super::{issued, two_years};
+use super::{issued, two_years, worked};
 use plan::endowment::Endowment;
 use std::test::Fail;
 use valuation::Valuation;
@@ -55,7 +55,7 @@ impl Valuation for Undiscounted {
 #[test]
 fn is_valued_as_the_caller_likes(rt: HostRuntime) -> Result<(), Fail> {
     let table = two_years(&rt)?;
-    let mut contract = issued(&table, Endowment::new(1_000_000, 2, 2)?, 0, 0)?;
+    let mut contract = worked(&table)?;
     // a million in the end, whatever comes, less the premium of a year and nine tenths of that of
     // the next
     for figure in [140_275, 547_513, 1_000_000] {

@@ -1,7 +1,7 @@
 // A table at the edges of its rules.
-use super::refused;
-use plan::Plan;
+use super::{pays, refused};
 use plan::table::PaymentTable;
+use std::process::Abort;
 use std::test::Fail;
 
 #[test]
@@ -29,6 +29,21 @@ fn refuses_unfit_years_and_lengths(rt: HostRuntime) -> Result<(), Fail> {
     Ok(())
 }
 
+// Of a table of two years, at a year and a state.
+fn is_refused(
+    rt: &impl Abort,
+    table: &mut PaymentTable,
+    columns: (&[i64], &[i64], &[i64]),
+    year: usize,
+    state: usize,
+) {
+    let (benefits, marks, moves) = columns;
+    assert_eq!(rt;
+        table.take_in(2, benefits, marks, moves),
+        refused(year, state)
+    );
+}
+
 #[test]
 fn refuses_benefits_then_marks_then_moves(rt: HostRuntime) -> Result<(), Fail> {
     let mut table = PaymentTable::new(rt.alloc())?;
@@ -36,31 +51,24 @@ fn refuses_benefits_then_marks_then_moves(rt: HostRuntime) -> Result<(), Fail> {
     let mut marks = [1; 24];
     let mut moves = [10_000_000_000; 128];
     moves[127] = -1;
-    assert_eq!(rt; table.take_in(2, &benefits, &marks, &moves), refused(1, 7));
+    is_refused(&rt, &mut table, (&benefits, &marks, &moves), 1, 7);
     moves[10] = 10_000_000_001;
-    assert_eq!(rt; table.take_in(2, &benefits, &marks, &moves), refused(0, 1));
+    is_refused(&rt, &mut table, (&benefits, &marks, &moves), 0, 1);
     marks[23] = 2;
-    assert_eq!(rt; table.take_in(2, &benefits, &marks, &moves), refused(2, 7));
+    is_refused(&rt, &mut table, (&benefits, &marks, &moves), 2, 7);
     marks[9] = -1;
-    assert_eq!(rt; table.take_in(2, &benefits, &marks, &moves), refused(1, 1));
+    is_refused(&rt, &mut table, (&benefits, &marks, &moves), 1, 1);
     benefits[22] = 10_000_000_001;
-    assert_eq!(rt; table.take_in(2, &benefits, &marks, &moves), refused(2, 6));
+    is_refused(&rt, &mut table, (&benefits, &marks, &moves), 2, 6);
     benefits[3] = -1;
-    assert_eq!(rt; table.take_in(2, &benefits, &marks, &moves), refused(0, 3));
+    is_refused(&rt, &mut table, (&benefits, &marks, &moves), 0, 3);
     Ok(())
 }
 
 #[test]
 fn reads_each_amount_at_its_place(rt: HostRuntime) -> Result<(), Fail> {
     let mut table = PaymentTable::new(rt.alloc())?;
-    assert_eq!(rt;
-        (
-            table.benefit(0, 0),
-            table.due(0, 0),
-            table.move_benefit(0, 1, 0),
-        ),
-        (0, false, 0)
-    );
+    pays(&rt, &table, &[(0, 0, 0)], &[(0, 0, false)], &[(0, 1, 0, 0)]);
     let mut benefits = [0; 24];
     let mut marks = [0; 24];
     let mut moves = [0; 128];
@@ -71,43 +79,23 @@ fn reads_each_amount_at_its_place(rt: HostRuntime) -> Result<(), Fail> {
     moves[84] = 124;
     assert_eq!(rt; table.take_in(2, &benefits, &marks, &moves), Ok(()));
     benefits[10] = -1;
-    assert_eq!(rt; table.take_in(2, &benefits, &marks, &moves), refused(1, 2));
-    assert_eq!(rt;
-        (
-            table.benefit(2, 1),
-            table.benefit(1, 2),
-            table.benefit(7, 2),
-        ),
-        (12, 0, 27)
-    );
-    assert_eq!(rt;
-        (
-            table.benefit(2, 3),
-            table.benefit(10, 0),
-            table.benefit(8, 2),
-        ),
-        (0, 0, 0)
-    );
-    assert_eq!(rt;
-        (
-            table.due(0, 1),
-            table.due(0, 2),
-            table.due(1, 0),
-            table.due(0, 3),
-        ),
-        (true, true, false, false)
-    );
-    assert_eq!(rt;
-        (
-            table.move_benefit(2, 4, 1),
-            table.move_benefit(4, 2, 1),
-            table.move_benefit(2, 4, 2),
-        ),
-        (124, 0, 0)
-    );
-    assert_eq!(rt;
-        (table.move_benefit(2, 12, 0), table.move_benefit(10, 4, 0)),
-        (0, 0)
-    );
+    is_refused(&rt, &mut table, (&benefits, &marks, &moves), 1, 2);
+    let benefits = [
+        (2, 1, 12),
+        (1, 2, 0),
+        (7, 2, 27),
+        (2, 3, 0),
+        (10, 0, 0),
+        (8, 2, 0),
+    ];
+    let dues = [(0, 1, true), (0, 2, true), (1, 0, false), (0, 3, false)];
+    let moves = [
+        (2, 4, 1, 124),
+        (4, 2, 1, 0),
+        (2, 4, 2, 0),
+        (2, 12, 0, 0),
+        (10, 4, 0, 0),
+    ];
+    pays(&rt, &table, &benefits, &dues, &moves);
     Ok(())
 }

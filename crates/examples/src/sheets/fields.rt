@@ -1,6 +1,7 @@
 // The numbers of fields, and the first line of a text.
 use sheet::part::Part;
 use sheet::spot::Spot;
+use std::process::Abort;
 use units::fault::{Fault, Layer, Place};
 
 fn unfit() -> Fault {
@@ -74,21 +75,19 @@ fn tells_a_number_that_is_out_of_range(rt: HostRuntime) {
     assert_eq!(rt; part.within(7, 8, 9), Err(outside));
 }
 
+fn is_part(rt: &impl Abort, part: Part<'_>, bytes: &[u8], line: usize, offset: usize) {
+    assert_eq!(rt; part.bytes(), bytes);
+    assert_eq!(rt; part.spot(), Spot { line, offset });
+}
+
 #[test]
 fn cuts_off_the_first_line(rt: HostRuntime) -> Result<(), Fault> {
     let (line, rest) = Part::new(b"L\nC;0;-1\n").first_line()?;
-    assert_eq!(rt;
-        (line.bytes(), rest.bytes()),
-        (b"L".as_slice(), b"C;0;-1\n".as_slice())
-    );
-    assert_eq!(rt; line.spot(), Spot { line: 1, offset: 0 });
-    assert_eq!(rt; rest.spot(), Spot { line: 2, offset: 2 });
+    is_part(&rt, line, b"L", 1, 0);
+    is_part(&rt, rest, b"C;0;-1\n", 2, 2);
     let (line, rest) = rest.first_line()?;
-    assert_eq!(rt;
-        (line.bytes(), rest.bytes()),
-        (b"C;0;-1".as_slice(), b"".as_slice())
-    );
-    assert_eq!(rt; rest.spot(), Spot { line: 3, offset: 9 });
+    is_part(&rt, line, b"C;0;-1", 2, 2);
+    is_part(&rt, rest, b"", 3, 9);
     let place = Place::Text { line: 3, offset: 9 };
     let open = Fault {
         number: 2,

@@ -1,46 +1,52 @@
 // The lines of sheets and commands, taken apart.
 use sheet::line::Line;
 use sheet::part::Part;
-use sheet::spot::Spot;
+use std::process::Abort;
 use units::fault::{Fault, Layer, Place};
 
 // A field's bytes and its offset.
-fn told<'a>(field: Part<'a>) -> (&'a [u8], usize) {
-    let Spot { line: _, offset } = field.spot();
-    (field.bytes(), offset)
+fn is_told(rt: &impl Abort, field: Part<'_>, bytes: &[u8], offset: usize) {
+    assert_eq!(rt; field.bytes(), bytes);
+    assert_eq!(rt; field.spot().offset, offset);
 }
 
 #[test]
-fn knows_the_letters_of_commands(rt: HostRuntime) -> Result<(), Fault> {
-    let sum = (b"1000000".as_slice(), 2);
+fn knows_the_letters_of_issues_and_alterations(rt: HostRuntime) -> Result<(), Fault> {
     match Line::split(Part::new(b"Q;1000000;2;1;50"))? {
         Line::Issue {
-            sum: s,
+            sum,
             term,
             paying_years,
             deposit,
         } => {
-            assert_eq!(rt; (told(s), told(term)), (sum, (b"2".as_slice(), 10)));
-            assert_eq!(rt; told(paying_years), (b"1".as_slice(), 12));
-            assert_eq!(rt; told(deposit), (b"50".as_slice(), 14));
+            is_told(&rt, sum, b"1000000", 2);
+            is_told(&rt, term, b"2", 10);
+            is_told(&rt, paying_years, b"1", 12);
+            is_told(&rt, deposit, b"50", 14);
         }
         _ => panic!(rt; "no issue"),
     }
     match Line::split(Part::new(b"A;1000000;2;1"))? {
         Line::Alter {
-            sum: s,
+            sum,
             term,
             paying_years,
         } => {
-            assert_eq!(rt; (told(s), told(term)), (sum, (b"2".as_slice(), 10)));
-            assert_eq!(rt; told(paying_years), (b"1".as_slice(), 12));
+            is_told(&rt, sum, b"1000000", 2);
+            is_told(&rt, term, b"2", 10);
+            is_told(&rt, paying_years, b"1", 12);
         }
         _ => panic!(rt; "no alteration"),
     }
+    Ok(())
+}
+
+#[test]
+fn knows_the_letters_of_closings_and_of_ends(rt: HostRuntime) -> Result<(), Fault> {
     match Line::split(Part::new(b"C;1;-10000"))? {
         Line::Close { state, rate } => {
-            assert_eq!(rt; told(state), (b"1".as_slice(), 2));
-            assert_eq!(rt; told(rate), (b"-10000".as_slice(), 4));
+            is_told(&rt, state, b"1", 2);
+            is_told(&rt, rate, b"-10000", 4);
         }
         _ => panic!(rt; "no closing"),
     }

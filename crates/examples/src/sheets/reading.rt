@@ -1,5 +1,6 @@
 // Sheets that are read.
 use sheet::read::read;
+use std::alloc::Global;
 use std::test::Fail;
 use units::fault::{Fault, Layer, Place};
 
@@ -65,9 +66,9 @@ fn factor(year: u32) -> i64 {
     1_000_000 - 1_000 * i64::from(year)
 }
 
-#[test]
-fn reads_a_full_sheet_back(rt: HostRuntime) -> Result<(), Fail> {
-    let mut text = String::new(rt.alloc());
+// A sheet of the most states and years, with these factors and shares.
+fn full_sheet(heap: Global) -> Result<String, Fail> {
+    let mut text = String::new(heap);
     write!(text, "B;8;120\n")?;
     for place in 0..7680u32 {
         let (t, i, j) = (place / 64, place / 8 % 8, place % 8);
@@ -78,6 +79,12 @@ fn reads_a_full_sheet_back(rt: HostRuntime) -> Result<(), Fail> {
         write!(text, "T;{t};{i};{j};{p}\n")?;
     }
     write!(text, "E\n")?;
+    Ok(text)
+}
+
+#[test]
+fn reads_a_full_sheet_back(rt: HostRuntime) -> Result<(), Fail> {
+    let text = full_sheet(rt.alloc())?;
     let mut factors = [-7; 121];
     let mut shares = [-7; 7681];
     let reading = read(text.as_str().as_bytes(), &mut factors, &mut shares)?;
