@@ -1,6 +1,7 @@
 // Calls every export of the static library as a program in C does, and compares the answers, what
-// is written and what stays as it was. All numbers that are handed in differ, so that two that
-// change places show. It ends with 1 at the first difference.
+// is written and what stays as it was. In the case of `c_case.h` all numbers that are handed in
+// differ, so that two that change places show; another is worked by hand. It ends with 1 at the
+// first difference.
 #include "c_case.h"
 #include "fineochre.h"
 
@@ -191,6 +192,99 @@ static void try_premiums(void)
     begin("the short plan, three bounds");
     answered(fineochre_premiums(&on_short, 1, 0, read_bounds, 3, one, 3), FINEOCHRE_DONE);
     written("premium", one, short_premiums, 3);
+}
+
+// ---- a case worked by hand: two years, a tenth and a fifth die, a factor of nine tenths, an
+// endowment of 1,000,000 ticks over both years with the premium due in both
+
+static int64_t worked_factors[2] = {900000, 0};
+static const int64_t worked_shares[8] = {900000, 100000, 0, 1000000, 800000, 200000, 0, 1000000};
+static const int64_t worked_benefits[24] = {[16] = 1000000};
+static int64_t worked_marks[24];
+static const int64_t worked_moves[128] = {[1] = 1000000, [65] = 1000000};
+
+// With this mark where the premium is due, and this factor in the last year.
+static struct fineochre_columns worked(int64_t mark, int64_t last_factor)
+{
+    worked_factors[1] = last_factor;
+    worked_marks[0] = worked_marks[8] = mark;
+    return (struct fineochre_columns){
+        .states = 2,
+        .years = 2,
+        .factors = ALL(worked_factors),
+        .shares = ALL(worked_shares),
+        .plan_years = 2,
+        .benefits = ALL(worked_benefits),
+        .marks = ALL(worked_marks),
+        .moves = ALL(worked_moves),
+    };
+}
+
+static const int64_t worked_premiums[2] = {452486, 452487};
+static const int64_t worked_reserves[2] = {1, -1};
+static const int64_t worked_least[1] = {-49725};
+static const int64_t worked_greatest[1] = {447513};
+static const int64_t worked_course[6] = {-1, 0, 447513, 0, 1000000, 0};
+static const int64_t worked_bounds[3] = {0, 819000, -9223372036854775807 - 1};
+static const int64_t worked_least_premiums[3] = {452487, 0, FINEOCHRE_NO_PREMIUM};
+
+static void try_worked_case(void)
+{
+    const struct fineochre_columns columns = worked(1, 900000);
+    call = "fineochre_reserves";
+    begin("the worked case");
+    answered(fineochre_reserves(&columns, 0, 0, worked_premiums, 2, one, 2), FINEOCHRE_DONE);
+    written("reserve", one, worked_reserves, 2);
+    call = "fineochre_spans";
+    begin("the worked case");
+    answered(fineochre_spans(&columns, 0, 0, worked_premiums + 1, 1, one, 1, two, 1),
+             FINEOCHRE_DONE);
+    written("least", one, worked_least, 1);
+    written("greatest", two, worked_greatest, 1);
+    call = "fineochre_course";
+    begin("the worked case, with a place to spare");
+    answered(fineochre_course(&columns, worked_premiums[1], 0, one, 7), FINEOCHRE_DONE);
+    written("entry", one, worked_course, 6);
+    begin("the worked case, a place too few");
+    refused(fineochre_course(&columns, 0, 0, one, 5), FINEOCHRE_COURSE);
+    call = "fineochre_premiums";
+    begin("the worked case");
+    answered(fineochre_premiums(&columns, 0, 0, worked_bounds, 3, one, 3), FINEOCHRE_DONE);
+    written("premium", one, worked_least_premiums, 3);
+}
+
+// Of what is broken at once, the first is told.
+static const struct {
+    const char *on;
+    int64_t mark, last_factor, premium;
+    size_t places;
+    uint8_t answer;
+} unfit_worked[] = {
+    {"nothing", 1, 900000, 0, 1, FINEOCHRE_DONE},
+    {"the places", 1, 900000, 0, 2, FINEOCHRE_UNFIT_PLACES},
+    {"the places and a premium", 1, 900000, -1, 2, FINEOCHRE_UNFIT_PLACES},
+    {"a premium below nought", 1, 900000, -1, 1, FINEOCHRE_UNFIT_PREMIUM},
+    {"a premium past the limit", 1, 900000, 10000000001, 1, FINEOCHRE_UNFIT_PREMIUM},
+    {"a factor", 1, 0, 0, 1, FINEOCHRE_FACTOR},
+    {"a factor and a mark", 2, 0, 0, 1, FINEOCHRE_FACTOR},
+    {"a mark", 2, 900000, 0, 1, FINEOCHRE_PAYMENT},
+};
+
+static void refuse_worked_case(void)
+{
+    call = "fineochre_reserves, of the worked case,";
+    for (size_t k = 0; k < COUNT(unfit_worked); k++) {
+        const int64_t premium = unfit_worked[k].premium;
+        const size_t places = unfit_worked[k].places;
+        const struct fineochre_columns columns =
+            worked(unfit_worked[k].mark, unfit_worked[k].last_factor);
+        begin(unfit_worked[k].on);
+        const uint8_t answer = fineochre_reserves(&columns, 0, 0, &premium, 1, one, places);
+        answered(answer, unfit_worked[k].answer);
+        if (answer != FINEOCHRE_DONE) {
+            nothing_written();
+        }
+    }
 }
 
 // ---- what every call refuses that values columns
@@ -491,12 +585,58 @@ static void refuse_sheets(void)
     }
 }
 
+// A sheet of the first year of the worked case, with a byte after its 65.
+static const char worked_sheet[] =
+    "B;2;1\n"
+    "D;0;900000\n"
+    "T;0;0;0;900000\n"
+    "T;0;0;1;100000\n"
+    "T;0;1;1;1000000\n"
+    "E\n"
+    "Q";
+enum { WORKED_BYTES = 65 };
+
+// How many bytes there are, and places for factors and for shares; what is answered, and where.
+static const struct {
+    const char *on;
+    size_t length, factors, shares;
+    uint8_t answer;
+    size_t line, offset;
+} worked_reads[] = {
+    {"all bytes, with places to spare", WORKED_BYTES + 1, 2, 5, FINEOCHRE_DONE, 7, 65},
+    {"no rest", WORKED_BYTES, 1, 4, FINEOCHRE_DONE, 7, 65},
+    {"a place for shares too few", WORKED_BYTES, 1, 3, FINEOCHRE_ROOM, 1, 0},
+    {"no last line feed", WORKED_BYTES - 1, 1, 4, FINEOCHRE_LINE_FEED, 6, 63},
+    {"a line cut off", 46, 1, 4, FINEOCHRE_LINE_FEED, 4, 32},
+};
+
+static void try_worked_sheet(void)
+{
+    call = "fineochre_read_sheet, of the worked sheet,";
+    for (size_t k = 0; k < COUNT(worked_reads); k++) {
+        struct fineochre_sheet_report report = untold;
+        begin_without_memory(worked_reads[k].on);
+        const uint8_t answer =
+            fineochre_read_sheet((const uint8_t *)worked_sheet, worked_reads[k].length, one,
+                                 worked_reads[k].factors, two, worked_reads[k].shares, &report);
+        const int is_read = answer == FINEOCHRE_DONE;
+        answered(answer, worked_reads[k].answer);
+        same("states", 0, (int64_t)report.states, is_read ? 2 : 11);
+        same("years", 0, (int64_t)report.years, is_read ? 1 : 12);
+        written("factor", one, worked_factors, is_read ? 1 : 0);
+        written("share", two, worked_shares, is_read ? 4 : 0);
+        told(&report, worked_reads[k].line, worked_reads[k].offset);
+    }
+}
+
 int main(void)
 {
     try_reserves();
     try_spans();
     try_course();
     try_premiums();
+    try_worked_case();
+    refuse_worked_case();
     try_all_valuing();
     try_every_size();
     refuse_reserves();
@@ -504,5 +644,6 @@ int main(void)
     refuse_course_and_premiums();
     try_sheet();
     refuse_sheets();
+    try_worked_sheet();
     return 0;
 }

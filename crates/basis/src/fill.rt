@@ -3,8 +3,9 @@ ghost use Rattle.std.specs.Prelude.{◌≡◌, ◌≤◌, map, length, pos, vec_
 ghost use Rattle.units.specs.Ranges.{million};
 ghost use Rattle.units.specs.Columns.{AllBetween};
 
-// Puts the entries of `column` in place of those of `parts`, within the memory that they have.
-// A public function may ask nothing of its callers, so the crates cannot share one that asks for entries it can keep.
+// Puts the entries of `column` in place of those of `parts`, within the memory that they have. A
+// public function may ask nothing of its callers, so the crates cannot share one that asks for
+// entries it can keep.
 pub(crate) fn refill(parts: &mut Vec<u32>, column: &[i64])
     requires checked { AllBetween (pos 0) (pos million) column.now }
     requires room { length column.now ≤ vec_capacity parts.old }

@@ -8,8 +8,6 @@ mod fill;
 pub mod life;
 pub mod shift;
 pub mod table;
-#[cfg(test)]
-mod tests;
 
 use units::MOST_STATES;
 
@@ -32,12 +30,7 @@ pub trait Basis {
 
     // The shares of all moves out of a state in a year. A basis that has them side by side lends
     // them: that saves a copy in each state of a sweep. Any other writes them to `room`.
-    fn row<'a>(
-        &'a self,
-        from: usize,
-        year: usize,
-        room: &'a mut [u32; MOST_STATES],
-    ) -> &'a [u32]
+    fn row<'a>(&'a self, from: usize, year: usize, room: &'a mut [u32; MOST_STATES]) -> &'a [u32]
         ensures { result.now ≡ row (meaning self.now) from year }
     {
         let shares = &mut room[..self.states()];

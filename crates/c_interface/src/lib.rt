@@ -14,8 +14,6 @@ pub mod premiums;
 pub mod reserves;
 pub mod sheets;
 pub mod spans;
-#[cfg(test)]
-mod tests;
 
 use units::LIMIT;
 use units::columns::first_outside;

@@ -7,5 +7,3 @@ pub mod contract;
 pub mod proposal;
 pub mod request;
 pub mod run;
-#[cfg(test)]
-mod tests;

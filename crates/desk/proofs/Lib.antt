@@ -9,3 +9,4 @@ pub mod Told
 pub mod Whole
 pub mod Worked
 pub mod WorkedInput
+pub mod WorkedReplies

@@ -30,6 +30,7 @@ use Rattle.desk.specs.Inputs.{IsAnswer, session}
 use Rattle.desk.specs.Replies.{reply_text}
 use Rattle.desk.specs.Sessions.{Does, Session, issues, closes, closes_not, leaves, does, ends, goes_on}
 use Rattle.desk.specs.WorkedInput.{worked_input, worked_answer, WorkedInput}
+use Rattle.desk.proofs.WorkedReplies.{worked_replies}
 use Rattle.desk.specs.declared.reply.Reply.TheVariants as says
 
 -- ---- the sheet
@@ -187,4 +188,4 @@ one_basis : AgreeEverywhere worked_basis basis
 one_basis = record { states = refl; years = refl; factor = same_factor; share = same_share }
 
 pub worked : WorkedInput
-worked = record { answer = answered; one_basis = one_basis; figures = worked_figures_on basis one_basis }
+worked = record { answer = answered; one_basis = one_basis; figures = worked_figures_on basis one_basis; replies = worked_replies }

@@ -9,3 +9,4 @@ pub mod Serving
 pub mod Sessions
 pub mod WorkedCommands
 pub mod WorkedInput
+pub mod WorkedReplies

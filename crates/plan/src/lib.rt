@@ -8,8 +8,6 @@ pub mod annuity;
 pub mod endowment;
 mod paying;
 pub mod table;
-#[cfg(test)]
-mod tests;
 
 use units::MOST_STATES;
 use units::amount::Amount;
@@ -26,7 +24,8 @@ pub trait Plan {
     fn due(&self, state: usize, year: usize) -> bool
         ensures { result ≡ (payments self.now).due state year };
 
-    // What is paid for a move at the end of a year. Three plain numbers: every plan would take a struct of them apart at once.
+    // What is paid for a move at the end of a year. Three plain numbers: every plan would take a
+    // struct of them apart at once.
     fn move_benefit(&self, from: usize, to: usize, year: usize) -> u64
         ensures { result ≡ (payments self.now).move_benefit from to year };
 

@@ -4,5 +4,3 @@
 pub mod input;
 pub mod output;
 mod step;
-#[cfg(test)]
-mod tests;

@@ -25,7 +25,8 @@ impl Clone for Amount {
 }
 
 impl Amount {
-    // The amount of so many ticks, where they lie in the range of an amount. It stays beside `try_from`, which names an error.
+    // The amount of so many ticks, where they lie in the range of an amount. It stays beside
+    // `try_from`, which names an error.
     pub fn new(ticks: i64) -> Option<Amount>
         ensures { MatchOption result (WithinLimit ticks → ⊥) (λ p. pos p.ticks ≡ ticks) }
     {

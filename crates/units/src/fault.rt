@@ -49,7 +49,8 @@ impl Fault {
         }
     }
 
-    // A fault of any number at a year and a state. It stays beside `breach`, since a rule would be narrower than a number.
+    // A fault of any number at a year and a state. It stays beside `breach`, since a rule would be
+    // narrower than a number.
     pub fn at_entry(number: u8, layer: Layer, year: usize, state: usize) -> Fault
         ensures { result ≡ entry_fault number layer year state }
     {

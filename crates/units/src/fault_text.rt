@@ -43,7 +43,8 @@ impl fmt::Display for Place {
     }
 }
 
-// The words of the rule that a number stands for, or those for all other numbers. A fault keeps a number, so this takes one.
+// The words of the rule that a number stands for, or those for all other numbers. A fault keeps a
+// number, so this takes one.
 fn words(number: u8) -> &'static str
     ensures { result.now ≡ rule_text number }
 {

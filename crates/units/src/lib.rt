@@ -1,4 +1,5 @@
-// What all other crates count in: ticks, parts of a million, amounts, and the rules and the fault that every refusal names.
+// What all other crates count in: ticks, parts of a million, amounts, and the rules and the fault
+// that every refusal names.
 #![tactic(auto)]
 
 pub mod amount;
@@ -10,8 +11,6 @@ pub mod francs;
 pub mod premium;
 pub mod rounding;
 pub mod rule;
-#[cfg(test)]
-mod tests;
 mod unpadded;
 
 // The most states and years that a basis or a plan can speak of.

@@ -2,7 +2,8 @@
 ghost use Rattle.std.specs.Prelude.{◌≡◌, ◌<◌, ◌%◌};
 ghost use Rattle.units.specs.Rounding.{rounded, nearest, ToNearest};
 
-// So many parts, of which an even number make a whole, to the nearest whole: halves upwards, below nought too.
+// So many parts, of which an even number make a whole, to the nearest whole: halves upwards, below
+// nought too.
 pub(crate) fn to_nearest<const PARTS: u32>(amount: i64) -> i64
     requires some { 0 < PARTS }
     requires even { PARTS % 2 ≡ 0 }

@@ -1,5 +1,5 @@
-// Writing a text as it is, whatever width, sign or `#` the reader asks for. What `write!` writes to a
-// formatter with such options, its contract does not say.
+// Writing a text as it is, whatever width, sign or `#` the reader asks for. What `write!` writes to
+// a formatter with such options, its contract does not say.
 ghost use Rattle.std.specs.Fmt.{DisplaysOnOk, DisplaysStyledOnOk};
 
 use std::fmt;

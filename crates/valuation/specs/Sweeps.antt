@@ -6,7 +6,7 @@ use Rattle.plan.specs.declared.Plan.{Ghosts as PlanGhosts}
 use Rattle.plan.specs.Payments.{Payments}
 use Rattle.valuation.specs.declared.Valuation.{Ghosts as ValuationGhosts}
 use Rattle.valuation.specs.declared.sweep.Sweep.{Sweep}
-use Rattle.valuation.specs.Figures.{flow, joined, joined_from, discounted, figure, figure_from}
+use Rattle.valuation.specs.Figures.{joined, joined_from, discounted, figure, figure_from}
 use Rattle.valuation.specs.Figures.{figures_from, figures_of, rows_from}
 use Rattle.valuation.specs.Operations.{Operations}
 
@@ -27,9 +27,6 @@ module _ {V B P F : Type 0} {v : ValuationGhosts V F} {b : BasisGhosts B} {p : P
   abbrev pub years_of : Sweep V B P F v b p → ℕ
   years_of s = (transitions_of s).years
 
-  abbrev pub flow_at : Sweep V B P F v b p → ℕ → ℕ → ℤ
-  flow_at s = flow (transitions_of s) (payments_of s) s.premium.ticks
-
   abbrev pub figure_at : Sweep V B P F v b p → ℕ → ℕ → F
   figure_at s = figure (operations_of s) (transitions_of s) (payments_of s) s.premium.ticks
 
@@ -43,20 +40,21 @@ module _ {V B P F : Type 0} {v : ValuationGhosts V F} {b : BasisGhosts B} {p : P
       discounted (operations_of s) (transitions_of s) (payments_of s) i t
       (λ j. figure_at s j (t + 1))
 
-  -- the join, the figure and the figures of some states, from a list of the figures a year later
-  abbrev pub joined_with : Sweep V B P F v b p → ℕ → ℕ → List F → F
-  joined_with s = joined_from (operations_of s) (transitions_of s) (payments_of s)
+  -- E, W, the figure of a state and those of the first states, from a list of the figures after, a
+  -- year later
+  abbrev pub joined_after : Sweep V B P F v b p → ℕ → ℕ → List F → F
+  joined_after s = joined_from (operations_of s) (transitions_of s) (payments_of s)
 
-  abbrev pub discounted_with : Sweep V B P F v b p → ℕ → ℕ → List F → F
-  discounted_with s i t after =
-      (operations_of s).discount ((transitions_of s).factor t) (joined_with s i t after)
+  abbrev pub discounted_after : Sweep V B P F v b p → ℕ → ℕ → List F → F
+  discounted_after s i t after =
+      (operations_of s).discount ((transitions_of s).factor t) (joined_after s i t after)
 
-  abbrev pub figure_with_list : Sweep V B P F v b p → ℕ → ℕ → List F → F
-  figure_with_list s =
+  abbrev pub figure_after : Sweep V B P F v b p → ℕ → ℕ → List F → F
+  figure_after s =
       figure_from (operations_of s) (transitions_of s) (payments_of s) s.premium.ticks
 
-  abbrev pub figures_with : Sweep V B P F v b p → ℕ → List F → ℕ → List F
-  figures_with s =
+  abbrev pub figures_after : Sweep V B P F v b p → ℕ → List F → ℕ → List F
+  figures_after s =
       figures_from (operations_of s) (transitions_of s) (payments_of s) s.premium.ticks
 
   -- the figures of all states of the basis in a year

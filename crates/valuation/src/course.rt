@@ -10,7 +10,8 @@ use units::fault::Fault;
 use units::premium::Premium;
 use units::rule::Rule;
 
-// Writes a row of the reserves of all states for each year from `year` to the last, one after another, into the front of the column.
+// Writes a row of the reserves of all states for each year from `year` to the last, one after
+// another, into the front of the column.
 #[tactic(auto, using(crate::specs::Orders::mean_ordered))]
 pub fn course<B: Basis, P: Plan>(
     basis: &B,

@@ -9,7 +9,8 @@ use basis::Basis;
 use plan::Plan;
 use units::premium::Premium;
 
-// What a contract is valued at in a state and a year, at a premium. Past the last year it is the figure of the benefit there.
+// What a contract is valued at in a state and a year, at a premium. Past the last year it is the
+// figure of the benefit there.
 pub fn figure<V: Valuation, B: Basis, P: Plan>(
     valuation: &V,
     basis: &B,

@@ -1,4 +1,5 @@
-// Valuations: what a contract is worth in each state and year, by one backward sweep over a basis and a plan.
+// Valuations: what a contract is worth in each state and year, by one backward sweep over a basis
+// and a plan.
 #![tactic(auto)]
 
 ghost use Rattle.std.specs.Prelude.{◌≡◌, ◌*◌, ◌^◌, ◌<◌, IsFalse, IsTrue, List, length, ℤ};
@@ -18,8 +19,6 @@ mod rooms;
 mod rounding;
 pub mod span;
 mod sweep;
-#[cfg(test)]
-mod tests;
 mod within;
 
 use basis::Basis;

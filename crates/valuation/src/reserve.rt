@@ -14,8 +14,8 @@ use basis::Basis;
 use plan::Plan;
 use units::premium::Premium;
 
-// The reserve in a state and a year, at a premium. Past the last year, and in a state that the basis does not have,
-// nothing follows: it is the benefit there, less a premium that is due.
+// The reserve in a state and a year, at a premium. Past the last year, and in a state that the
+// basis does not have, nothing follows: it is the benefit there, less a premium that is due.
 pub fn reserve<B: Basis, P: Plan>(
     basis: &B,
     plan: &P,

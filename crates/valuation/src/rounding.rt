@@ -24,7 +24,8 @@ pub(crate) fn round_near_mean(sum: i64) -> i64
     round_near(sum)
 }
 
-// How a discounted amount is rounded: by a name of its own, so that either rounding can change alone.
+// How a discounted amount is rounded: by a name of its own, so that either rounding can change
+// alone.
 pub(crate) fn round_near_discount(product: i64) -> i64
     requires { Within 4600000000000000000 product }
     ensures { result ≡ rounded_discount product }

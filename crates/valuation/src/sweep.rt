@@ -1,5 +1,6 @@
-// The backward sweep, for every kind of figure. It allocates nothing: figures stand in arrays on the stack, as long as any basis
-// wants, which a valuation's law says to fit in memory. A slice to fill is handed on at once, so that its length stays a clause.
+// The backward sweep, for every kind of figure. It allocates nothing: figures stand in arrays on
+// the stack, as long as any basis wants, which a valuation's law says to fit in memory. A slice to
+// fill is handed on at once, so that its length stays a clause.
 ghost use Rattle.std.specs.Prelude.{◌≡◌, ◌+◌, ◌-◌, ◌*◌, ◌<◌, ◌≤◌, ◌++◌, take, drop, length};
 ghost use Rattle.basis.specs.Transitions.{Lawful};
 ghost use Rattle.plan.specs.Payments.{InRange};
@@ -29,12 +30,13 @@ pub(crate) struct Sweep<'a, V: Valuation, B: Basis, P: Plan> {
 impl<'a, V: Valuation, B: Basis, P: Plan> Sweep<'a, V, B, P> {
     ghost use Rattle.valuation.specs.Sweeps.{states_of, years_of, figure_at, figures_in};
     ghost use Rattle.valuation.specs.Sweeps.{joined_at, discounted_at, rows_from_year};
-    ghost use Rattle.valuation.specs.Sweeps.{joined_with, discounted_with};
-    ghost use Rattle.valuation.specs.Sweeps.{figure_with_list, figures_with};
+    ghost use Rattle.valuation.specs.Sweeps.{joined_after, discounted_after};
+    ghost use Rattle.valuation.specs.Sweeps.{figure_after, figures_after};
 
-    // The join of what follows a state in a year, where `after` has the figures of all states a year later.
+    // The join of what follows a state in a year, where `after` has the figures of all states a
+    // year later.
     fn joined(&self, state: usize, year: usize, after: &[V::Figure]) -> V::Figure
-        ensures { result ≡ joined_with self.now state year after.now }
+        ensures { result ≡ joined_after self.now state year after.now }
     {
         let nothing = self.valuation.make(0);
         let mut shares = [0u32; MOST_STATES];
@@ -51,8 +53,8 @@ impl<'a, V: Valuation, B: Basis, P: Plan> Sweep<'a, V, B, P> {
 
     // That join discounted, and as it is.
     fn ahead(&self, state: usize, year: usize, after: &[V::Figure]) -> (V::Figure, V::Figure)
-        ensures discounted { result.0 ≡ discounted_with self.now state year after.now }
-        ensures joined { result.1 ≡ joined_with self.now state year after.now }
+        ensures discounted { result.0 ≡ discounted_after self.now state year after.now }
+        ensures joined { result.1 ≡ joined_after self.now state year after.now }
     {
         let joined = self.joined(state, year, after);
         let discounted = self.valuation.discount(self.basis.factor(year), joined);
@@ -61,7 +63,7 @@ impl<'a, V: Valuation, B: Basis, P: Plan> Sweep<'a, V, B, P> {
 
     // The figure of a state in a year.
     fn figure_before(&self, state: usize, year: usize, after: &[V::Figure]) -> V::Figure
-        ensures { result ≡ figure_with_list self.now state year after.now }
+        ensures { result ≡ figure_after self.now state year after.now }
     {
         let (discounted, _) = self.ahead(state, year, after);
         let flow = flow_of(self.basis, self.plan, self.premium, state, year);
@@ -70,16 +72,11 @@ impl<'a, V: Valuation, B: Basis, P: Plan> Sweep<'a, V, B, P> {
 
     // The figures of the first states in a year, at once or else each by itself.
     fn fill_year(&self, year: usize, after: &[V::Figure], figures: &mut [V::Figure])
-        ensures { figures.new ≡ figures_with self.now year after.now (length figures.old) }
+        ensures { figures.new ≡ figures_after self.now year after.now (length figures.old) }
     {
-        let at_once = self.valuation.fill_at_once(
-            self.basis,
-            self.plan,
-            self.premium,
-            year,
-            after,
-            figures,
-        );
+        let at_once = self
+            .valuation
+            .fill_at_once(self.basis, self.plan, self.premium, year, after, figures);
         if !at_once {
             fill_each(figures, |state| self.figure_before(state, year, after));
         }
@@ -97,8 +94,8 @@ impl<'a, V: Valuation, B: Basis, P: Plan> Sweep<'a, V, B, P> {
         });
     }
 
-    // The figures of all states in a year, backwards from the last year of the basis. Where there is
-    // a place for a row of them for that year and each later one, these are kept in `rows`.
+    // The figures of all states in a year, backwards from the last year of the basis. Where there
+    // is a place for a row of them for that year and each later one, these are kept in `rows`.
     pub(crate) fn back_to(&self, first: usize, rows: &mut [V::Figure]) -> [V::Figure; MOST_STATES]
         requires { first ≤ years_of self.now }
         ensures figures { take (states_of self.now) result ≡ figures_in self.now first }
@@ -152,7 +149,8 @@ impl<'a, V: Valuation, B: Basis, P: Plan> Sweep<'a, V, B, P> {
 // Puts figures in `rows` from a place on, if they have so many places.
 fn keep<F: Copy>(figures: &[F], rows: &mut [F], place: usize)
     ensures kept { place + length figures.now ≤ length rows.old →
-        rows.new ≡ take place rows.old ++ figures.now ++ drop (place + length figures.now) rows.old }
+        rows.new ≡ take place rows.old ++ figures.now ++
+        drop (place + length figures.now) rows.old }
     ensures as_long { length rows.new ≡ length rows.old }
 {
     if place <= rows.len() && figures.len() <= rows.len() - place {

@@ -29,7 +29,8 @@ fn check(deaths: &[i64], factor: i64) -> Result<(), Fault>
 }
 
 impl LifeTable {
-    // One year in which nobody dies and nothing is discounted. All the memory that a table can need is asked for here.
+    // One year in which nobody dies and nothing is discounted. All the memory that a table can need
+    // is asked for here.
     pub fn new(heap: Global) -> Result<LifeTable, AllocError>
         ensures { IfOk result (λ s. Holds s (pos 0 ∷ []) (pos million)) }
     {
@@ -41,8 +42,8 @@ impl LifeTable {
         })
     }
 
-    // Takes in a column of death shares and a factor, or says what is first wrong with them and stays
-    // as it was. It wants no memory.
+    // Takes in a column of death shares and a factor, or says what is first wrong with them and
+    // stays as it was. It wants no memory.
     pub fn take_in(&mut self, deaths: &[i64], factor: i64) -> Result<(), Fault>
         ensures outcome { TakesIn self.old self.new deaths.now factor result }
         ensures capacity { KeepsCapacity self.old self.new }

@@ -60,12 +60,7 @@ impl<B: Basis> Basis for AgeShift<B> {
             .map_or(0, |t| self.below.share(from, to, t))
     }
 
-    fn row<'a>(
-        &'a self,
-        from: usize,
-        year: usize,
-        room: &'a mut [u32; MOST_STATES],
-    ) -> &'a [u32] {
+    fn row<'a>(&'a self, from: usize, year: usize, room: &'a mut [u32; MOST_STATES]) -> &'a [u32] {
         match self.year_below(year) {
             Some(t) => self.below.row(from, t, room),
             None => {

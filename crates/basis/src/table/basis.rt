@@ -31,12 +31,7 @@ impl Basis for TransitionTable {
         }
     }
 
-    fn row<'a>(
-        &'a self,
-        from: usize,
-        year: usize,
-        room: &'a mut [u32; MOST_STATES],
-    ) -> &'a [u32] {
+    fn row<'a>(&'a self, from: usize, year: usize, room: &'a mut [u32; MOST_STATES]) -> &'a [u32] {
         if year < self.factors.len() && from < self.states {
             let start = (year * self.states + from) * self.states;
             return &self.shares[start..start + self.states];

@@ -20,7 +20,8 @@ pub(super) struct Columns<'a> {
 }
 
 impl Columns<'_> {
-    // Whether a table can have so many states and years, and the columns one entry for each of their places.
+    // Whether a table can have so many states and years, and the columns one entry for each of
+    // their places.
     fn fits(&self) -> bool
         ensures { IsTrue result ↔ FitSize self.now.states self.now.years self.now.factors.now self.now.shares.now }
     {

@@ -11,7 +11,8 @@ use units::fault::Fault;
 use units::{MILLION, MOST_STATES, MOST_YEARS};
 
 impl TransitionTable {
-    // Two states and one year, in which everybody stays and nothing is discounted. All the memory that a table can need is asked for here.
+    // Two states and one year, in which everybody stays and nothing is discounted. All the memory
+    // that a table can need is asked for here.
     pub fn new(heap: Global) -> Result<TransitionTable, AllocError>
         ensures { IfOk result (λ s. Holds s 2 (pos million ∷ []) (pos million ∷ pos 0 ∷ pos 0 ∷ pos million ∷ [])) }
     {

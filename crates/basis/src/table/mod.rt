@@ -6,11 +6,9 @@ mod basis;
 mod check;
 mod make;
 mod rows;
-#[cfg(test)]
-mod tests;
 
-// A factor for each year, and the shares of all moves, those of one state in one year side by side: two columns, since a year
-// has one factor and many shares.
+// A factor for each year, and the shares of all moves, those of one state in one year side by side:
+// two columns, since a year has one factor and many shares.
 #[derive(Drop)]
 pub struct TransitionTable {
     states: usize,

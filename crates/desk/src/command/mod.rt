@@ -6,8 +6,6 @@ ghost use Rattle.desk.specs.Meanings.{Means, Says, TellsLine};
 ghost use Rattle.desk.specs.WorkedCommands.{worked_commands, lines_of, worked_lines};
 
 mod fields;
-#[cfg(test)]
-mod tests;
 
 use fields::{alter, close, issue};
 use plan::endowment::Endowment;

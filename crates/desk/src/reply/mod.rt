@@ -1,6 +1,4 @@
 // Lines that the desk answers.
-#[cfg(test)]
-mod tests;
 mod write;
 
 pub(crate) use write::write_reply;

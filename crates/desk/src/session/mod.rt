@@ -5,8 +5,6 @@ ghost use Rattle.desk.specs.Inputs.{IsAnswer, most_text_bytes};
 ghost use Rattle.desk.specs.WorkedInput.{WorkedInput};
 
 mod lines;
-#[cfg(test)]
-mod tests;
 
 use crate::reply::MOST_REPLY_BYTES;
 use basis::table::TransitionTable;

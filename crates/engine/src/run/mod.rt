@@ -3,9 +3,6 @@ ghost use Rattle.desk.specs.Inputs.{IsAnswer};
 ghost use Rattle.streams.specs.Runs.{Runs};
 ghost use Rattle.streams.specs.Streams.{IsReadInPart, most_read};
 
-#[cfg(test)]
-mod tests;
-
 use desk::session::Session;
 use std::alloc::Global;
 use std::io;

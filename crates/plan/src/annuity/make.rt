@@ -10,8 +10,8 @@ use units::rule::Rule;
 use units::{MOST_STATES, MOST_YEARS};
 
 impl Annuity {
-    // An annuity of an amount in ticks in a state of 0 to 7, in the years from `first` up to but not including `end`,
-    // with the premium due in the first `paying_years`.
+    // An annuity of an amount in ticks in a state of 0 to 7, in the years from `first` up to but
+    // not including `end`, with the premium due in the first `paying_years`.
     pub fn new(
         amount: i64,
         state: usize,

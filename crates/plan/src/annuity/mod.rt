@@ -3,8 +3,6 @@ ghost use Rattle.plan.specs.AnnuityTerms.{FitYears};
 
 mod make;
 mod plan;
-#[cfg(test)]
-mod tests;
 
 use units::amount::Amount;
 

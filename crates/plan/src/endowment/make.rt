@@ -9,7 +9,8 @@ use units::fault::Fault;
 use units::rule::Rule;
 
 impl Endowment {
-    // An endowment of a sum in ticks, over a term of 1 to 120 years, of which the premium is due in the first `paying_years`.
+    // An endowment of a sum in ticks, over a term of 1 to 120 years, of which the premium is due in
+    // the first `paying_years`.
     pub fn new(sum: i64, term: usize, paying_years: usize) -> Result<Endowment, Fault>
         ensures { MatchResult result (λ s. Fit sum term paying_years × Holds s sum term paying_years) (λ fault. (Fit sum term paying_years → ⊥) × Refuses sum term paying_years fault) }
     {

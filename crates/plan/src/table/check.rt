@@ -18,8 +18,8 @@ fn fault_at(place: usize) -> Fault
     Fault::breach(Rule::Payment, place / MOST_STATES, place % MOST_STATES)
 }
 
-// Refuses the first benefit or mark that is not from 0 to `high`. A `match` as in each check: a function of what was found and of its
-// fault would say no less.
+// Refuses the first benefit or mark that is not from 0 to `high`. A `match` as in each check: a
+// function of what was found and of its fault would say no less.
 fn check_places(column: &[i64], high: i64) -> Result<(), Fault>
     ensures { MatchResult result (λ _. AllBetween (pos 0) high column.now) (λ fault. UnfitPlace high column.now fault) }
 {
@@ -29,7 +29,8 @@ fn check_places(column: &[i64], high: i64) -> Result<(), Fault>
     }
 }
 
-// Refuses the first move benefit that is out of range. Its fault is at the state that is left, eight places to a state.
+// Refuses the first move benefit that is out of range. Its fault is at the state that is left,
+// eight places to a state.
 fn check_moves(moves: &[i64]) -> Result<(), Fault>
     ensures { MatchResult result (λ _. AllBetween (pos 0) (pos limit) moves.now) (λ fault. UnfitMove moves.now fault) }
 {

@@ -11,8 +11,9 @@ use units::amount::Amount;
 use units::fault::Fault;
 use units::{MOST_STATES, MOST_YEARS};
 
-// Puts what the entries of `column` stand for in place of those that are kept, within the memory that there is.
-// A public function may ask nothing of its callers, so the crates cannot share one that asks for entries it can read.
+// Puts what the entries of `column` stand for in place of those that are kept, within the memory
+// that there is. A public function may ask nothing of its callers, so the crates cannot share one
+// that asks for entries it can read.
 fn refill<T: Copy, F: Fn(i64) -> T>(kept: &mut Vec<T>, column: &[i64], read: F)
     requires readable { MayReadEach (F.pre read) column.now }
     requires room { length column.now ≤ vec_capacity kept.old }

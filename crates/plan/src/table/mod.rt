@@ -5,13 +5,11 @@ ghost use Rattle.plan.specs.PaymentColumns.{FitSize, amount_entry, mark_entry};
 mod check;
 mod make;
 mod plan;
-#[cfg(test)]
-mod tests;
 
 use units::amount::Amount;
 
-// The last year in which a benefit is paid or the premium is due, and the three columns. Benefits and marks stay apart as they are
-// handed in: pairs of them would want a fill of their own.
+// The last year in which a benefit is paid or the premium is due, and the three columns. Benefits
+// and marks stay apart as they are handed in: pairs of them would want a fill of their own.
 #[derive(Drop)]
 pub struct PaymentTable {
     years: usize,

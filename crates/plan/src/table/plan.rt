@@ -10,7 +10,8 @@ use units::MOST_STATES;
 use units::amount::Amount;
 
 impl PaymentTable {
-    // Where the benefit and the mark of a state at the start of a year stand, if the table has them.
+    // Where the benefit and the mark of a state at the start of a year stand, if the table has
+    // them.
     fn place(&self, state: usize, year: usize) -> Option<usize>
         ensures { MatchOption result ((year ≤ self.now.years) × (state < 8) → ⊥) (λ p. (year ≤ self.now.years) × (state < 8) × (p ≡ place state year)) }
     {

@@ -2,8 +2,6 @@
 use crate::part::Part;
 
 mod split;
-#[cfg(test)]
-mod tests;
 
 // A line by its letter, with its fields as they stand in the input.
 #[derive(Clone, Copy, PartialEq, Eq, Debug)]

@@ -6,8 +6,6 @@ use crate::spot::Spot;
 mod cut;
 mod lines;
 mod number;
-#[cfg(test)]
-mod tests;
 
 // A part of the input, such as a line or a field, with the spot where it begins.
 #[derive(Clone, Copy, PartialEq, Eq, Debug)]

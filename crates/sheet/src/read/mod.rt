@@ -10,11 +10,6 @@ ghost use Rattle.sheet.specs.Sheets.{Sheet, IsSheet, basis_of};
 ghost use Rattle.sheet.specs.Texts.{text_of};
 ghost use Rattle.sheet.specs.WorkedSheet.{worked_sheet, worked_text};
 
-#[cfg(test)]
-mod refusals;
-#[cfg(test)]
-mod tests;
-
 use crate::columns::Columns;
 use crate::part::Part;
 use crate::reader::Reader;

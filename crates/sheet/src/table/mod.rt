@@ -7,9 +7,6 @@ ghost use Rattle.sheet.specs.Fields.{bytes_of};
 ghost use Rattle.sheet.specs.Sheets.{Sheet, IsSheet};
 ghost use Rattle.sheet.specs.Taken.{most, IsTaken, ReadsInto};
 
-#[cfg(test)]
-mod tests;
-
 use crate::part::Part;
 use crate::read::read;
 use basis::table::TransitionTable;

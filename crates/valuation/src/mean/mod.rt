@@ -49,14 +49,16 @@ fn round_mean(sum: i64) -> i64
     nearest(sum)
 }
 
-// How a discounted amount, in millionths of a tick, is rounded: by a name of its own, so that either rounding can change alone.
+// How a discounted amount, in millionths of a tick, is rounded: by a name of its own, so that
+// either rounding can change alone.
 fn round_discount(product: i64) -> i64
     ensures { result ≡ rounded_discount product }
 {
     nearest(product)
 }
 
-// Sums and products saturate: beyond the range of lawful figures that keeps order and never overflows.
+// Sums and products saturate: beyond the range of lawful figures that keeps order and never
+// overflows.
 impl Valuation for Mean {
     type Figure = i64;
 

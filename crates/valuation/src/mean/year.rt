@@ -6,10 +6,10 @@ ghost use Rattle.units.specs.Ranges.{million, limit};
 ghost use Rattle.valuation.specs.Figures.{joined_from, figure_from, figures_from};
 ghost use Rattle.valuation.specs.Means.{mean};
 
-use crate::within::{brought_back, is_roomy};
 use crate::flow::flow_of;
 use crate::rooms::Rooms;
 use crate::rounding::round_near_mean;
+use crate::within::{brought_back, is_roomy};
 use basis::Basis;
 use plan::Plan;
 use units::premium::Premium;
@@ -82,7 +82,9 @@ impl<'a, B: Basis, P: Plan> ExactYear<'a, B, P> {
         ensures range { Within 4590000000000 result }
     {
         let row = self.basis.row(state, self.year, &mut rooms.shares);
-        let benefits = self.plan.move_benefits(state, self.year, &mut rooms.amounts);
+        let benefits = self
+            .plan
+            .move_benefits(state, self.year, &mut rooms.amounts);
         let mut sum = 0i64;
         for to in 0..self.after.len() {
             sum = add_move(sum, row[to], self.after[to], benefits[to].ticks());

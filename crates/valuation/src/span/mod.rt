@@ -17,7 +17,8 @@ use basis::Basis;
 use plan::Plan;
 use units::premium::Premium;
 
-// The least and the most that a contract can come to in a state and a year, at a premium, whichever moves with a share it makes.
+// The least and the most that a contract can come to in a state and a year, at a premium, whichever
+// moves with a share it makes.
 pub fn span<B: Basis, P: Plan>(
     basis: &B,
     plan: &P,

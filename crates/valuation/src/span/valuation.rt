@@ -1,4 +1,5 @@
-// The span as a valuation: figures are pairs of ends, and a join goes over what follows moves that have a share.
+// The span as a valuation: figures are pairs of ends, and a join goes over what follows moves that
+// have a share.
 ghost use Rattle.std.specs.Prelude.{◌≡◌, ◌≤◌, pos, ◌+ℤ◌, ◌*ℤ◌};
 ghost use Rattle.std.proofs.Common.{rules};
 ghost use Rattle.units.specs.Ranges.{million};

@@ -1,5 +1,5 @@
-// A year in the span of which nothing has to saturate: what has to be tested of the spans of the year
-// after is tested once, and their type tells it.
+// A year in the span of which nothing has to saturate: what has to be tested of the spans of the
+// year after is tested once, and their type tells it.
 ghost use Rattle.std.specs.Prelude.{◌≡◌, ℕ, ◌<◌, ◌≤◌, ◌↔◌, get_or, length, pos, IsTrue, IfSome};
 ghost use Rattle.units.specs.Ranges.{limit};
 ghost use Rattle.valuation.specs.Figures.{joined_from, figure_from, figures_from};
@@ -89,7 +89,9 @@ impl<'a, B: Basis, P: Plan> ExactYear<'a, B, P> {
         ensures range { EndsWithin 4590000000000 result }
     {
         let row = self.basis.row(state, self.year, &mut rooms.shares);
-        let benefits = self.plan.move_benefits(state, self.year, &mut rooms.amounts);
+        let benefits = self
+            .plan
+            .move_benefits(state, self.year, &mut rooms.amounts);
         let mut hull: Option<Ends> = None;
         for to in 0..self.after.len() {
             if row[to] > 0 {

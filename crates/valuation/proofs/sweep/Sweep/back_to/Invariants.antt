@@ -7,5 +7,5 @@ abbrev pub invariant-loop-year : goal.invariant-loop-year
 invariant-loop-year g l =
     (take l.states l.figures ≡ figures_in l.self l.year)
     × (length l.rows ≡ (l.years + 1 - l.first) * l.states →
-      drop ((l.year - l.first) * l.states) l.rows ≡ rows_from_year l.self l.year)
+    drop ((l.year - l.first) * l.states) l.rows ≡ rows_from_year l.self l.year)
     × (l.first ≤ l.year)

@@ -31,6 +31,6 @@ returns c =
     let s = c.args.self.now in
     let law = transition_table_lawful s in
     noughts_are_row (transition_table s) law c.args.from c.args.year (λ j. elim c.else-year-len.branch [
-      else-year-len-via-then-year-len+else-from-self w ↦ law.share_from_outside c.args.from j c.args.year w.if-from-self.false
+      | else-year-len-via-then-year-len+else-from-self w ↦ law.share_from_outside c.args.from j c.args.year w.if-from-self.false
       | else-year-len-via-else-year-len w ↦ law.share_after c.args.from j c.args.year (omega (arith, w.if-year-len.false, c.len.ensures))
     ])

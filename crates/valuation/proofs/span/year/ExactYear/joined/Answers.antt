@@ -27,22 +27,22 @@ loop-to-preserved g c =
     let read = share_read b c.args.state year.year c.row-row.result.now c.row-row.ensures to inside in
     let longer = ap (λ n. hull_with so_far (possible (map share (range_with_len to n)) (map follows (range_with_len to n)))) left ∙ c.loop-to.invariant.0 in
     elim c.if-row-to-gt0.branch [
-      then-row-to-gt0 w ↦
+      | then-row-to-gt0 w ↦
           let few : to < 8 = omega (arith, inside, (g.met.B.Basis.lawful year.basis.now).most_states) in
           let benefit = w.ticks.ensures.value ∙ benefit_read p c.args.state year.year c.move_benefits-benefits.result.now c.move_benefits-benefits.ensures to few w.index-benefits-to.result w.index-benefits-to.is in
           let ends : w.raised-ends.result ≡ follows to = w.raised-ends.ensures.value ∙ ap (λ n. span.add (get_or year.after.now to nought) (pos n)) benefit in
           let wider : c.if-row-to-gt0.hull ≡ Some (widest so_far (follows to)) = w.hull-is ∙ ap (λ x. Some x) (w.widened_from.ensures ∙ ap (widest so_far) ends) in
           let some : 0 < share to = omega (arith, w.if-row-to-gt0.true, read) in (
             ap (λ h. hull_with h (possible (map share later) (map follows later))) wider
-            ∙ hull_counted so_far (share to) (follows to) (map share later) (map follows later) some
-            ∙ longer,
+                ∙ hull_counted so_far (share to) (follows to) (map share later) (map follows later) some
+                ∙ longer,
             rw (w.hull-is, w.widened_from.ensures) (widest_within 4590000000000 so_far w.raised-ends.result c.loop-to.invariant.1 w.raised-ends.ensures.range),
           )
       | else-row-to-gt0 w ↦
           let none : share to ≤ 0 = omega (arith, w.if-row-to-gt0.false, read) in (
             ap (λ h. hull_with h (possible (map share later) (map follows later))) w.hull-is
-            ∙ hull_skipped so_far (share to) (follows to) (map share later) (map follows later) none
-            ∙ longer,
+                ∙ hull_skipped so_far (share to) (follows to) (map share later) (map follows later) none
+                ∙ longer,
             rw w.hull-is c.loop-to.invariant.1,
           )
     ]
