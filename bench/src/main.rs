@@ -9,6 +9,7 @@ mod program;
 mod question;
 mod random;
 mod random_bounds;
+mod random_endowments;
 mod random_inputs;
 mod random_portfolio;
 mod random_sheets;

@@ -16,6 +16,7 @@ const ROUNDS: usize = 51;
 // sweep to outweigh what a search does besides.
 const COUNTED: usize = 50;
 const COUNTED_RANDOM: usize = 300;
+const COUNTED_ENDOWMENTS: usize = 330;
 const LEAST_COUNTED_YEARS: usize = 40;
 
 // Sweeps back to V(0, 0), one at each premium.
@@ -65,13 +66,15 @@ fn count_one(contract: &Contract, bound: i64) -> Sweeps {
     let pieces = ROUND_SHARES
         .div_ceil(contract.shares.len())
         .max(ROUND_SWEEPS);
+    // Where none will do, halving ends past the limit.
     let least = least_premium(contract, bound);
-    let (bounds, premiums) = (vec![bound; pieces], vec![least; pieces]);
+    let end = if least < 0 { LIMIT + 1 } else { least };
+    let (bounds, premiums) = (vec![bound; pieces], vec![end.min(LIMIT); pieces]);
     let multiple = timing::multiple(contract, &pricings(&bounds), &sweeps(&premiums), ROUNDS);
     Sweeps {
         engine: multiple.engine,
         plain: multiple.plain,
-        plain_known: halvings(least) as f64,
+        plain_known: halvings(end) as f64,
     }
 }
 
@@ -80,10 +83,10 @@ fn count_sweeps(
     random: &mut Random,
     count: usize,
     contract: impl Fn(&mut Random) -> Contract,
+    bound: impl Fn(&mut Random, &Contract) -> Option<Vec<i64>>,
 ) -> Vec<Sweeps> {
     let mut count_next = || {
-        let bound = |random: &mut Random, contract: &Contract| random.bounds(contract, 1);
-        let (contract, bounds) = random.contract_with(&contract, bound);
+        let (contract, bounds) = random.contract_with(&contract, &bound);
         count_one(&contract, bounds[0])
     };
     (0..count).map(|_| count_next()).collect()
@@ -110,20 +113,37 @@ fn print_counts(name: &str, states: &str, years: &str, counts: &[Sweeps]) {
     );
 }
 
+// A random number of states and of years.
+fn any_size(random: &mut Random) -> (usize, usize) {
+    let states = random.count(2, MOST_STATES);
+    (states, random.count(LEAST_COUNTED_YEARS, MOST_YEARS))
+}
+
+fn any_contract(random: &mut Random) -> Contract {
+    let (states, years) = any_size(random);
+    let plan_years = random.count(0, MOST_YEARS);
+    random.contract(states, years, plan_years)
+}
+
+fn any_endowment(random: &mut Random) -> Contract {
+    let (states, years) = any_size(random);
+    random.endowment(states, years)
+}
+
+// Endowments are counted for any deposit, also one that suffices or that no premium will do for;
+// the others for a bound whose least premium is inside the range.
 pub fn print_all(random: &mut Random, sizes: &[(&str, usize, usize)]) {
     println!("\nSweeps for a least premium: its time over that of a sweep");
     println!("size     states  years  contracts  engine  most  unclear   plain  known");
+    let inside = |random: &mut Random, contract: &Contract| random.bounds(contract, 1);
     for &(name, states, years) in sizes {
-        let counts = count_sweeps(random, COUNTED, |random| {
-            random.contract(states, years, years)
-        });
+        let contract = |random: &mut Random| random.contract(states, years, years);
+        let counts = count_sweeps(random, COUNTED, contract, inside);
         print_counts(name, &states.to_string(), &years.to_string(), &counts);
     }
-    let counts = count_sweeps(random, COUNTED_RANDOM, |random| {
-        let states = random.count(2, MOST_STATES);
-        let years = random.count(LEAST_COUNTED_YEARS, MOST_YEARS);
-        let plan_years = random.count(0, MOST_YEARS);
-        random.contract(states, years, plan_years)
-    });
+    let counts = count_sweeps(random, COUNTED_RANDOM, any_contract, inside);
     print_counts("random", "2-8", "40-120", &counts);
+    let deposit = |random: &mut Random, _: &Contract| Some(vec![random.deposit()]);
+    let counts = count_sweeps(random, COUNTED_ENDOWMENTS, any_endowment, deposit);
+    print_counts("endowed", "2-8", "40-120", &counts);
 }
