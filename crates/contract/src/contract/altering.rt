@@ -30,6 +30,7 @@ impl<'a, B: Basis, P: Plan + Drop> Contract<'a, B, P> {
         }
         self.plan = plan;
         self.premium = priced.premium;
+        self.reserve = priced.reserve;
         self.number += 1;
         Ok(Altered {
             number: self.number,

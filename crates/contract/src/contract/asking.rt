@@ -21,7 +21,6 @@ use units::rule::Rule;
 use valuation::Valuation;
 use valuation::course::course;
 use valuation::figure::figure;
-use valuation::reserve::reserve;
 use valuation::span::ends::Ends;
 use valuation::span::span;
 
@@ -42,7 +41,7 @@ impl<'a, B: Basis, P: Plan> Contract<'a, B, P> {
         ensures near_exact { IsNearExact self.now result }
         ensures promise { Promise (basis_of self.now) mean_ends mean }
     {
-        reserve(self.basis, &self.plan, self.premium, self.state, self.year)
+        self.reserve
     }
 
     // The least and the most that it can still come to.

@@ -131,6 +131,7 @@ impl<'a, B: Basis, P: Plan> Contract<'a, B, P> {
         self.state = end;
         self.year += 1;
         self.number += 1;
+        self.reserve = closed.reserve;
         Ok(closed)
     }
 }

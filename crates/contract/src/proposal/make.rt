@@ -95,7 +95,7 @@ impl<'a, B: Basis, P: Plan + Drop> Proposal<'a, B, P> {
     {
         let Priced { premium, reserve } = priced;
         Issued {
-            contract: Contract::issued(self.basis, self.plan, premium, self.start),
+            contract: Contract::issued(self.basis, self.plan, premium, self.start, reserve),
             premium,
             reserve,
             opening_result: self.deposit.ticks() as i64 - reserve,
