@@ -5,11 +5,12 @@ use plan::endowment::Endowment;
 use std::test::Fail;
 use units::fault::{Fault, Layer};
 use units::premium::Premium;
+use valuation::Valuation;
 use valuation::closing::{Move, closing_values};
 use valuation::course::course;
 use valuation::figure::figure;
 use valuation::mean::Mean;
-use valuation::pricing::least_premium;
+use valuation::pricing::{least_premium, price};
 use valuation::reserve::reserve;
 use valuation::span::ends::Ends;
 use valuation::span::span;
@@ -138,6 +139,42 @@ fn premiums_of_the_worked_case(rt: HostRuntime) -> Result<(), Fail> {
     for (state, year, bound, ticks) in cases {
         let premium = least_premium(&table, &plan, state, year, bound)?;
         assert_eq!(rt; premium.ticks(), ticks);
+    }
+    Ok(())
+}
+
+#[test]
+fn prices_tell_the_reserve(rt: HostRuntime) -> Result<(), Fail> {
+    let table = table_of(&rt)?;
+    let plan = Endowment::new(1_000_000, 2, 2)?;
+    // bound, premium, reserve
+    for (bound, ticks, reserve) in [(0, 452_487, -1), (1, 452_486, 1)] {
+        let priced = price(&table, &plan, 0, 0, bound)?;
+        assert_eq!(rt; (priced.premium.ticks(), priced.reserve), (ticks, reserve));
+    }
+    Ok(())
+}
+
+#[test]
+fn years_are_filled_at_once_or_left(rt: HostRuntime) -> Result<(), Fail> {
+    let table = table_of(&rt)?;
+    let plan = Endowment::new(1_000_000, 2, 2)?;
+    let premium = Premium::try_from(452_487)?;
+    // year, the reserves after it, and those of the year where it is filled
+    let cases = [
+        (0, [447_513, 0], Some([-1, 0])),
+        (1, [1_000_000, 0], Some([447_513, 0])),
+        (2, [1_000_000, 0], None),
+        (0, [i64::MAX, 0], None),
+        (0, [0, i64::MIN], None),
+    ];
+    for (year, after, filled) in cases {
+        let mut figures = [7, 7];
+        let at_once = Mean.fill_at_once(&table, &plan, premium, year, &after, &mut figures);
+        assert_eq!(rt;
+            (at_once, figures),
+            (filled.is_some(), filled.unwrap_or([7, 7]))
+        );
     }
     Ok(())
 }

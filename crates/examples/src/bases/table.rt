@@ -1,5 +1,6 @@
 // A table at the edges of its rules.
 use super::{answers, refused};
+use basis::Basis;
 use basis::shift::AgeShift;
 use basis::table::TransitionTable;
 use std::test::Fail;
@@ -108,5 +109,32 @@ fn is_entered_at_a_later_age(rt: HostRuntime) -> Result<(), Fail> {
     let factors = [(0, 960_000), (1, 1_000_000)];
     let shares = [(0, 1, 0, 80_000), (1, 0, 0, 150_000), (0, 1, 1, 0)];
     answers(&rt, &AgeShift::new(table, 1), (3, 1), &factors, &shares);
+    Ok(())
+}
+
+#[test]
+fn lends_each_row(rt: HostRuntime) -> Result<(), Fail> {
+    let mut table = TransitionTable::new(rt.alloc())?;
+    table.take_in(3, 2, &FACTORS, &SHARES)?;
+    // from, year, the shares
+    let cases = [
+        (0, 0, [900_000, 70_000, 30_000]),
+        (1, 1, [150_000, 790_000, 60_000]),
+        (2, 1, [0, 0, 1_000_000]),
+        (3, 0, [0; 3]),
+        (0, 2, [0; 3]),
+    ];
+    for (from, year, shares) in cases {
+        let mut room = [7; 8];
+        assert_eq!(rt; table.row(from, year, &mut room), shares.as_slice());
+    }
+    let shift = AgeShift::new(table, 1);
+    let mut room = [7; 8];
+    assert_eq!(rt;
+        shift.row(0, 0, &mut room),
+        [880_000, 80_000, 40_000].as_slice()
+    );
+    let mut room = [7; 8];
+    assert_eq!(rt; shift.row(0, 1, &mut room), [0; 3].as_slice());
     Ok(())
 }
