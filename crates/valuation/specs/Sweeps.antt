@@ -1,5 +1,5 @@
 -- What a sweep answers, in any state and year. Assumes nothing.
-use Rattle.std.specs.Prelude.{ℕ, ◌+◌, List, ℤ}
+use Rattle.std.specs.Prelude.{ℕ, ◌+◌, List, get_or, pos}
 use Rattle.basis.specs.declared.Basis.{Ghosts as BasisGhosts}
 use Rattle.basis.specs.Transitions.{Transitions}
 use Rattle.plan.specs.declared.Plan.{Ghosts as PlanGhosts}
@@ -40,8 +40,13 @@ module _ {V B P F : Type 0} {v : ValuationGhosts V F} {b : BasisGhosts B} {p : P
       discounted (operations_of s) (transitions_of s) (payments_of s) i t
       (λ j. figure_at s j (t + 1))
 
-  -- E, W, the figure of a state and those of the first states, from a list of the figures after, a
-  -- year later
+  -- what follows a move, E, W, the figure of a state and those of the first states, from a list of
+  -- the figures after, a year later
+  abbrev pub following_after : Sweep V B P F v b p → ℕ → ℕ → List F → ℕ → F
+  following_after s i t after j =
+      (operations_of s).add (get_or after j ((operations_of s).make (pos 0)))
+      (pos ((payments_of s).move_benefit i j t))
+
   abbrev pub joined_after : Sweep V B P F v b p → ℕ → ℕ → List F → F
   joined_after s = joined_from (operations_of s) (transitions_of s) (payments_of s)
 

@@ -30,24 +30,28 @@ pub(crate) struct Sweep<'a, V: Valuation, B: Basis, P: Plan> {
 impl<'a, V: Valuation, B: Basis, P: Plan> Sweep<'a, V, B, P> {
     ghost use Rattle.valuation.specs.Sweeps.{states_of, years_of, figure_at, figures_in};
     ghost use Rattle.valuation.specs.Sweeps.{joined_at, discounted_at, rows_from_year};
-    ghost use Rattle.valuation.specs.Sweeps.{joined_after, discounted_after};
+    ghost use Rattle.valuation.specs.Sweeps.{following_after, joined_after, discounted_after};
     ghost use Rattle.valuation.specs.Sweeps.{figure_after, figures_after};
 
-    // The join of what follows a state in a year, where `after` has the figures of all states a
-    // year later.
+    // What follows a move in a year: what is paid for it, with the figure of the state entered,
+    // where `after` has the figures of all states a year later.
+    fn following(&self, state: usize, to: usize, year: usize, after: &[V::Figure]) -> V::Figure
+        ensures { result ≡ following_after self.now state year after.now to }
+    {
+        let figure = after.get(to).copied().unwrap_or(self.valuation.make(0));
+        let benefit = self.plan.move_benefit(state, to, year) as i64;
+        self.valuation.add(figure, benefit)
+    }
+
+    // The join of what follows a state in a year.
     fn joined(&self, state: usize, year: usize, after: &[V::Figure]) -> V::Figure
         ensures { result ≡ joined_after self.now state year after.now }
     {
-        let nothing = self.valuation.make(0);
         let mut shares = [0u32; MOST_STATES];
-        let mut follows = [nothing; MOST_STATES];
+        let mut follows = [self.valuation.make(0); MOST_STATES];
         let row = self.basis.row(state, year, &mut shares);
         let following = &mut follows[..self.basis.states()];
-        fill_each(following, |to| {
-            let figure = after.get(to).copied().unwrap_or(nothing);
-            let benefit = self.plan.move_benefit(state, to, year) as i64;
-            self.valuation.add(figure, benefit)
-        });
+        fill_each(following, |to| self.following(state, to, year, after));
         self.valuation.join(state, row, following)
     }
 
