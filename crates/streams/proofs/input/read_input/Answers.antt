@@ -1,4 +1,4 @@
-use Rattle.std.proofs.Common.{◌≡◌, rules, length, drop, take, sym, subst}
+use Rattle.std.proofs.Common.{◌≡◌, ◌∙◌, length, drop, take, sym, subst, arith}
 use Rattle.streams.specs.Streams.{IsRead, most_read}
 use Rattle.streams.proofs.Chains.{front_kept}
 use Rattle.streams.proofs.input.read_input.Goals as goal
@@ -12,9 +12,9 @@ returns g c =
     let count = c.in_ok-count.count in
     let left = drop (length buffer) input.items in
     let items = c.truncate.new.self.items in
-    let full : length buffer ≡ most_read = Prim.search rules in
-    let whole : input.len ≡ length buffer = Prim.search rules in
-    let kept = front_kept count input.len buffer left items whole c.truncate.ensures.items in
+    let same : length buffer ≡ input.len = c.in_ok-count.ensures.length ∙ c.deref_mut.ensures.len in
+    let full : length buffer ≡ most_read = omega (arith, same, c.in_ok-input.ensures.len) in
+    let kept = front_kept count input.len buffer left items (sym same) c.truncate.ensures.items in
     let read : IsRead most_read before after (take count buffer) =
     subst (λ n. IsRead n before after (take count buffer)) full c.in_ok-count.ensures.read.0 in
     subst (IsRead most_read before after) (sym kept) read
