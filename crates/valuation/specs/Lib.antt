@@ -11,6 +11,7 @@ pub mod OrderFacts
 pub mod Orders
 pub mod Premiums
 pub mod Reserves
+pub mod Room
 pub mod SpanOperations
 pub mod SpanOrders
 pub mod Spans

@@ -20,6 +20,7 @@ mod rounding;
 pub mod span;
 mod sweep;
 mod within;
+mod year;
 
 use basis::Basis;
 use plan::Plan;

@@ -1,18 +1,55 @@
 // Steps back by a year of figures that leave room, so that nothing saturates.
-ghost use Rattle.std.specs.Prelude.{◌≡◌, ◌≤◌, ◌↔◌, IsTrue};
+ghost use Rattle.std.specs.Prelude.{◌≡◌, ℕ, ◌≤◌, ◌↔◌, get_or, pos, IsTrue};
+ghost use Rattle.std.proofs.Props.{props};
 ghost use Rattle.units.specs.Near.{Within};
 ghost use Rattle.units.specs.Ranges.{million, limit};
 ghost use Rattle.valuation.specs.Means.{mean};
+ghost use Rattle.valuation.specs.Room.{IsRoomy, nought_is_roomy};
 
 use crate::rounding::round_near_discount;
 
-// A figure that leaves room for an amount: a million times their sum is near enough to nought.
+// Amounts in a figure leave room for another: a million times their sum is near enough to nought.
 const ROOMY: i64 = 4_580_000_000_000;
 
-pub(crate) fn is_roomy(figure: i64) -> bool
-    ensures { IsTrue result ↔ Within 4580000000000 figure }
+// Figures of which it can be told whether they leave room.
+pub(crate) trait Roomy: Copy {
+    ghost leaves_room: { Self → Type 0 };
+
+    ghost is_fact: { (figure : Self) → IsProp (leaves_room figure) };
+
+    // The figure of nothing, which does.
+    ghost nothing: { Self };
+
+    ghost nothing_leaves_room: { leaves_room nothing };
+
+    fn is_roomy(self) -> bool
+        ensures { IsTrue result ↔ leaves_room self };
+}
+
+impl Roomy for i64 {
+    ghost leaves_room = { IsRoomy };
+
+    ghost is_fact = { λ figure. Prim.hlevel props };
+
+    ghost nothing = { pos 0 };
+
+    ghost nothing_leaves_room = { nought_is_roomy };
+
+    fn is_roomy(self) -> bool {
+        -ROOMY <= self && self <= ROOMY
+    }
+}
+
+// Whether all figures leave room. A loop of its own, so that no test breaks off a sum.
+pub(crate) fn all_roomy<F: Roomy>(after: &[F]) -> bool
+    ensures { IsTrue result → (j : ℕ) → F.leaves_room (get_or after.now j F.nothing) }
 {
-    -ROOMY <= figure && figure <= ROOMY
+    for figure in after {
+        if !figure.is_roomy() {
+            return false;
+        }
+    }
+    true
 }
 
 // What a figure a year later comes to, discounted and with a flow.

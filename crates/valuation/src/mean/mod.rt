@@ -11,12 +11,12 @@ ghost use Rattle.std.proofs.Common.{rules};
 mod year;
 
 use crate::Valuation;
+use crate::year::ExactYear;
 use basis::Basis;
 use plan::Plan;
 use units::MILLION;
 use units::premium::Premium;
 use units::rounding::nearest;
-use year::ExactYear;
 
 #[derive(Clone, Copy)]
 pub struct Mean;

@@ -10,7 +10,7 @@ ghost use Rattle.valuation.specs.SpanOrders.{span_told_by_ends, span_ordered};
 use crate::Valuation;
 use crate::mean::Mean;
 use crate::span::ends::Ends;
-use crate::span::year::ExactYear;
+use crate::year::ExactYear;
 use basis::Basis;
 use plan::Plan;
 use units::premium::Premium;

@@ -1,39 +1,37 @@
-// A year in the span of which nothing has to saturate: what has to be tested of the spans of the
-// year after is tested once, and their type tells it.
-ghost use Rattle.std.specs.Prelude.{◌≡◌, ℕ, ◌<◌, ◌≤◌, ◌↔◌, get_or, length, pos, IsTrue, IfSome};
+// The span of a year in which nothing has to saturate.
+ghost use Rattle.std.specs.Prelude.{◌≡◌, ◌≤◌, length, pos};
+ghost use Rattle.std.proofs.Props.{props};
 ghost use Rattle.units.specs.Ranges.{limit};
 ghost use Rattle.valuation.specs.Figures.{joined_from, figure_from, figures_from};
+ghost use Rattle.valuation.specs.Room.{AreRoomy, noughts_are_roomy};
 ghost use Rattle.valuation.specs.SpanOperations.{span, nought, EndsWithin};
 
 use crate::flow::flow_of;
 use crate::rooms::Rooms;
 use crate::span::ends::Ends;
-use crate::within::{brought_back, is_roomy};
+use crate::within::{Roomy, brought_back};
+use crate::year::ExactYear;
 use basis::Basis;
 use plan::Plan;
 use units::premium::Premium;
 
-fn are_roomy(ends: Ends) -> bool
-    ensures { IsTrue result ↔ EndsWithin 4580000000000 ends }
-{
-    is_roomy(ends.least) && is_roomy(ends.greatest)
-}
+impl Roomy for Ends {
+    ghost leaves_room = { AreRoomy };
 
-// Whether all ends leave room. A loop of its own, as for the mean.
-fn all_roomy(after: &[Ends]) -> bool
-    ensures { IsTrue result → (j : ℕ) → EndsWithin 4580000000000 (get_or after.now j nought) }
-{
-    for ends in after {
-        if !are_roomy(*ends) {
-            return false;
-        }
+    ghost is_fact = { λ figure. Prim.hlevel props };
+
+    ghost nothing = { nought };
+
+    ghost nothing_leaves_room = { noughts_are_roomy };
+
+    fn is_roomy(self) -> bool {
+        self.least.is_roomy() && self.greatest.is_roomy()
     }
-    true
 }
 
 // Both ends with an amount more.
 fn raised(ends: Ends, amount: u64) -> Ends
-    requires ends { EndsWithin 4580000000000 ends }
+    requires ends { AreRoomy ends }
     requires amount { amount ≤ limit }
     ensures value { result ≡ span.add ends (pos amount) }
     ensures range { EndsWithin 4590000000000 result }
@@ -44,44 +42,7 @@ fn raised(ends: Ends, amount: u64) -> Ends
     }
 }
 
-// A year that the basis has, where the spans of all states a year later leave room.
-#[derive(Drop)]
-pub(super) struct ExactYear<'a, B: Basis, P: Plan> {
-    basis: &'a B,
-    plan: &'a P,
-    premium: Premium,
-    year: usize,
-    after: &'a [Ends],
-    ghost early: { year < (B.meaning basis.now).years },
-    ghost fits: { length after.now ≡ (B.meaning basis.now).states },
-    ghost roomy: { (j : ℕ) → EndsWithin 4580000000000 (get_or after.now j nought) },
-}
-
-impl<'a, B: Basis, P: Plan> ExactYear<'a, B, P> {
-    // Nothing where the year is none of the basis, or an end leaves no room.
-    pub(super) fn new(
-        basis: &'a B,
-        plan: &'a P,
-        premium: Premium,
-        year: usize,
-        after: &'a [Ends],
-    ) -> Option<ExactYear<'a, B, P>>
-        ensures { IfSome result (λ exact. (exact.basis.now ≡ basis.now) ×
-            (exact.plan.now ≡ plan.now) × (exact.premium ≡ premium) × (exact.year ≡ year) ×
-            (exact.after.now ≡ after.now)) }
-    {
-        if year >= basis.years() || after.len() != basis.states() || !all_roomy(after) {
-            return None;
-        }
-        Some(ExactYear {
-            basis,
-            plan,
-            premium,
-            year,
-            after,
-        })
-    }
-
+impl<'a, B: Basis, P: Plan> ExactYear<'a, Ends, B, P> {
     // The join of what follows a state: from the least to the greatest after a move with a share.
     fn joined(&self, state: usize, rooms: &mut Rooms) -> Ends
         ensures value { result ≡ joined_from span (B.meaning self.now.basis.now)

@@ -1,6 +1,6 @@
 use Rattle.std.proofs.Common.{rules, ◌≡◌, w64, to_z, of_z, ap₂, ◌∙◌}
 use Rattle.valuation.specs.Means.{mean}
-use Rattle.valuation.proofs.mean.year.ExactYear.figure.Goals as goal
+use Rattle.valuation.proofs.mean.year.ExactYear+i64+B+P.figure.Goals as goal
 
 pub brought_back-requires-clause-factor : goal.brought_back-requires-clause-factor
 brought_back-requires-clause-factor g c =

@@ -1,6 +1,6 @@
 use Rattle.std.proofs.Common.{◌≡◌, get_or, pos}
 use Rattle.valuation.proofs.Steps.{so_far}
-use Rattle.valuation.proofs.mean.year.ExactYear.joined.Given as goal
+use Rattle.valuation.proofs.mean.year.ExactYear+i64+B+P.joined.Given as goal
 
 abbrev pub invariant-loop-to : goal.invariant-loop-to
 invariant-loop-to g l =

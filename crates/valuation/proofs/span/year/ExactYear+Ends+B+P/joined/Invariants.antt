@@ -3,7 +3,7 @@ use Rattle.std.specs.List.{range_with_len}
 use Rattle.valuation.specs.declared.span.ends.Ends.{Ends}
 use Rattle.valuation.specs.SpanOperations.{span, nought, possible, hull, EndsWithin}
 use Rattle.valuation.proofs.Hulls.{hull_with}
-use Rattle.valuation.proofs.span.year.ExactYear.joined.Given as goal
+use Rattle.valuation.proofs.span.year.ExactYear+Ends+B+P.joined.Given as goal
 
 -- with what is still to come, the hull so far is the whole
 abbrev pub invariant-loop-to : goal.invariant-loop-to

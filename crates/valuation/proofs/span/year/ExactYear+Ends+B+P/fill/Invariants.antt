@@ -1,7 +1,7 @@
 use Rattle.std.proofs.Common.{◌≡◌, take}
 use Rattle.valuation.specs.Figures.{figures_from}
 use Rattle.valuation.specs.SpanOperations.{span}
-use Rattle.valuation.proofs.span.year.ExactYear.fill.Given as goal
+use Rattle.valuation.proofs.span.year.ExactYear+Ends+B+P.fill.Given as goal
 
 -- the places so far hold the figures of the first states
 abbrev pub invariant-loop-state : goal.invariant-loop-state

@@ -3,7 +3,7 @@ use Rattle.std.proofs.lemmas.List.{take_more_set}
 use Rattle.std.proofs.lemmas.List.FromFn.{map-range_with_len_more}
 use Rattle.valuation.specs.Figures.{figure_from}
 use Rattle.valuation.specs.Means.{mean}
-use Rattle.valuation.proofs.mean.year.ExactYear.fill.Goals as goal
+use Rattle.valuation.proofs.mean.year.ExactYear+i64+B+P.fill.Goals as goal
 
 pub loop-state-preserved : goal.loop-state-preserved
 loop-state-preserved g c =

@@ -4,8 +4,8 @@ use Rattle.valuation.specs.declared.span.ends.Ends.{Ends}
 use Rattle.valuation.specs.SpanOperations.{span, nought, possible, hull, widest}
 use Rattle.valuation.proofs.Hulls.{hull_with, hull_counted, hull_skipped, hull_ended, widest_within}
 use Rattle.valuation.proofs.RowReads.{row_length, share_read, benefit_read}
-use Rattle.valuation.proofs.span.year.ExactYear.joined.Goals as goal
-use Rattle.valuation.proofs.span.year.ExactYear.joined.Goals.{then-row-to-gt0, else-row-to-gt0}
+use Rattle.valuation.proofs.span.year.ExactYear+Ends+B+P.joined.Goals as goal
+use Rattle.valuation.proofs.span.year.ExactYear+Ends+B+P.joined.Goals.{then-row-to-gt0, else-row-to-gt0}
 
 pub bounds-row-to : goal.bounds-row-to
 bounds-row-to g c =

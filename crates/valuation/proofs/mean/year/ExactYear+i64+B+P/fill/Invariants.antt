@@ -1,7 +1,7 @@
 use Rattle.std.proofs.Common.{◌≡◌, take}
 use Rattle.valuation.specs.Figures.{figures_from}
 use Rattle.valuation.specs.Means.{mean}
-use Rattle.valuation.proofs.mean.year.ExactYear.fill.Given as goal
+use Rattle.valuation.proofs.mean.year.ExactYear+i64+B+P.fill.Given as goal
 
 -- the places so far hold the figures of the first states
 abbrev pub invariant-loop-state : goal.invariant-loop-state

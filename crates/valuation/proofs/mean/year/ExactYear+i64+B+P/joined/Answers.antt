@@ -6,7 +6,7 @@ use Rattle.valuation.proofs.Agreement.{joined_is}
 use Rattle.valuation.proofs.Range.{expected_within}
 use Rattle.valuation.proofs.RowReads.{row_length, share_read, benefit_read}
 use Rattle.valuation.proofs.Steps.{so_far, one_more, share_most, so_far_within}
-use Rattle.valuation.proofs.mean.year.ExactYear.joined.Goals as goal
+use Rattle.valuation.proofs.mean.year.ExactYear+i64+B+P.joined.Goals as goal
 
 pub bounds-row-to : goal.bounds-row-to
 bounds-row-to g c =

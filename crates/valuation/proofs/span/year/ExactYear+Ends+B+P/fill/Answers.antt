@@ -4,7 +4,7 @@ use Rattle.std.proofs.lemmas.List.FromFn.{map-range_with_len_more}
 use Rattle.valuation.specs.declared.span.ends.Ends.{Ends}
 use Rattle.valuation.specs.Figures.{figure_from}
 use Rattle.valuation.specs.SpanOperations.{span}
-use Rattle.valuation.proofs.span.year.ExactYear.fill.Goals as goal
+use Rattle.valuation.proofs.span.year.ExactYear+Ends+B+P.fill.Goals as goal
 
 pub loop-state-preserved : goal.loop-state-preserved
 loop-state-preserved g c =
