@@ -53,7 +53,6 @@ impl Session {
 
     // The text that answers an input: a sheet, and commands on its basis. What was answered before
     // makes no difference.
-    #[tactic(auto, using(crate::proofs::WorkedInput::worked, crate::proofs::OneAnswer::one_answer))]
     pub fn answer(&mut self, bytes: &[u8]) -> &str
         ensures answer { IsAnswer bytes.now result.now }
         ensures no_other_answer { (other : List ℕ) → IsAnswer bytes.now other → result.now ≡ other }
