@@ -26,12 +26,14 @@ returns-then-self-ge-LAST_NUMBER-clause-unchanged g c = refl
 pub invariant_of-self : goal.invariant_of-self
 invariant_of-self g c =
     let k = c.args.self.now in
-    let kept : to_z w64 (of_z w64 c.in_ok-priced.priced.reserve) ≡ c.in_ok-priced.priced.reserve = Prim.search rules in
+    let priced = c.in_ok-priced.priced in
+    let kept : to_z w64 (of_z w64 priced.reserve) ≡ priced.reserve = Prim.search rules in
+    let stays : to_z w64 (of_z w64 priced.reserve) ≡ reserve_at (basis_of k) (altered (standing k) (g.P.Plan.payments c.args.plan) priced.premium.ticks) = rw kept c.in_ok-priced.ensures.reserve in
     record {
       state_in_basis = k.state_in_basis;
       year_in_basis = k.year_in_basis;
       counted = omega (arith, c.if-self-ge-LAST_NUMBER.false);
-      reserved = rw kept c.in_ok-priced.ensures.reserve;
+      reserved = stays;
     }
 
 pub returns-clause-entry : goal.returns-clause-entry
