@@ -1,5 +1,5 @@
 -- What is told of a year that is closed, from what the closing works from. Assumes nothing.
-use Rattle.std.proofs.Common.{◌≡◌, ℕ, ◌+◌, ℤ, pos, ◌-ℤ◌, ◌*ℤ◌}
+use Rattle.std.proofs.Common.{◌≡◌, ℕ, ◌+◌, ℤ, pos, ◌-ℤ◌, ◌*ℤ◌, ap}
 use Rattle.basis.specs.Transitions.{Transitions}
 use Rattle.basis.specs.declared.Basis.{Ghosts as BasisGhosts}
 use Rattle.plan.specs.Payments.{Payments}
@@ -28,3 +28,6 @@ module _ (c : Transitions) (s : Standing) (end : ℕ) (rate : ℤ) where
       let on_risk : year.risk_result ≡ risk_result c s end = cc in
       let after : year.reserve ≡ reserve_at c (moved s end) = cc in
       same_year year (closed_year c s end rate) counts now taken paid earned on_interest on_risk after
+
+  pub reserve_of_year : (year : ClosedYear) → year ≡ closed_year c s end rate → year.reserve ≡ reserve_at c (moved s end)
+  reserve_of_year year is = ap (λ k. k.reserve) is
