@@ -1,5 +1,5 @@
 -- What is told of a year that is closed, from what the closing works from. Assumes nothing.
-use Rattle.std.proofs.Common.{◌≡◌, ℕ, ◌+◌, ℤ, pos, ◌-ℤ◌, ◌*ℤ◌, ap}
+use Rattle.std.proofs.Common.{◌≡◌, ℕ, ◌+◌, ◌<◌, ℤ, pos, ◌-ℤ◌, ◌*ℤ◌, ap}
 use Rattle.basis.specs.Transitions.{Transitions}
 use Rattle.basis.specs.declared.Basis.{Ghosts as BasisGhosts}
 use Rattle.plan.specs.Payments.{Payments}
@@ -11,6 +11,10 @@ use Rattle.contract.specs.Steps.{ClosedYear, rounded_interest, premium_taken, be
 -- the values of a move, where it leads from and to
 pub values_of_move : {B : Type 0} {b : BasisGhosts B} (step : Move B b) (basis : B) (i j t : ℕ) (p : Payments) (premium : ℕ) (values : (ℤ × ℤ) × ℤ) → IsMove step basis i j t → AreClosingValues step p premium values → ClosingValues (b.meaning basis) p premium i t j values.0.0 values.0.1 values.1
 values_of_move step basis i j t p premium values move are = simp (move.on_basis, move.out_of, move.into, move.in_year) at are
+
+-- a move that there is has a share of its state
+pub share_of_move : {B : Type 0} {b : BasisGhosts B} (step : Move B b) (basis : B) (i j t : ℕ) → IsMove step basis i j t → 0 < (b.meaning basis).share i j t
+share_of_move step basis i j t move = simp (move.on_basis, move.out_of, move.into, move.in_year) at step.possible
 
 -- two years of which the same is told are the same
 same_year : (k h : ClosedYear) → k.number ≡ h.number → k.year ≡ h.year → k.premium ≡ h.premium → k.benefits ≡ h.benefits → k.interest_earned ≡ h.interest_earned → k.interest_result ≡ h.interest_result → k.risk_result ≡ h.risk_result → k.reserve ≡ h.reserve → k ≡ h
