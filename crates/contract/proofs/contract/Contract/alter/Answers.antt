@@ -1,4 +1,5 @@
 use Rattle.std.proofs.Common.{◌≡◌, rules, refl, ◌+◌, ◌-ℤ◌, arith, Err, w64, to_z, of_z}
+use Rattle.valuation.specs.Premiums.{NoPremium}
 use Rattle.contract.specs.ContractStates.{basis_of, standing}
 use Rattle.contract.specs.Standings.{reserve_at, altered}
 use Rattle.contract.proofs.Entries.{no_premium_there, no_number_there, altered_there}
@@ -6,10 +7,15 @@ use Rattle.contract.proofs.contract.Contract.alter.Goals as goal
 
 pub returns-in_err-priced-clause-entry : goal.returns-in_err-priced-clause-entry
 returns-in_err-priced-clause-entry g c =
+    let k = c.args.self.now in
+    let plan = g.P.Plan.payments c.args.plan in
     let before = c.reserve-before.result in
+    let fault = c.in_err-priced.field-0.0 in
     let bound : to_z w64 (of_z w64 before) ≡ before = Prim.search rules in
-    let outcome : c.from_residual.result ≡ Err c.in_err-priced.field-0.0 = Prim.search rules in
-    rw outcome (record { same_basis = refl; entry = no_premium_there (basis_of c.args.self.now) (standing c.args.self.now) (g.P.Plan.payments c.args.plan) before c.reserve-before.ensures.value c.in_err-priced.field-0.0 (rw bound at c.in_err-priced.ensures.least) })
+    let refuses : c.price.result ≡ Err fault = c.in_err-priced.was in
+    let none : NoPremium (basis_of k) plan k.state k.year (to_z w64 (of_z w64 before)) fault = rw refuses at c.price.ensures.least in
+    let outcome : c.from_residual.result ≡ Err fault = Prim.search rules in
+    rw outcome (record { same_basis = refl; entry = no_premium_there (basis_of k) (standing k) plan before c.reserve-before.ensures.value fault (rw bound at none) })
 
 pub returns-then-self-ge-LAST_NUMBER-clause-entry : goal.returns-then-self-ge-LAST_NUMBER-clause-entry
 returns-then-self-ge-LAST_NUMBER-clause-entry g c =
