@@ -9,3 +9,4 @@ pub mod Running
 pub mod Totals
 pub mod Turns
 pub mod WorkedRun
+pub mod Years

@@ -24,13 +24,13 @@ module _ {F B P : Type 0} {b : BasisGhosts B} {p : PlanGhosts P} (v : Operations
   pub goes_nowhere : (k : Contract B P b p) (answers : List (CodeAnswer F)) → Goes v k [] answers answers k
   goes_nowhere k answers = record { same_basis = refl; answers = []; behind = sym (append-nil answers); runs = λ books. (books, done) }
 
-  pub goes_further : (k l m : Contract B P b p) (requests : List (CodeRequest P)) (request : CodeRequest P) (before after : List (CodeAnswer F)) (answer : CodeAnswer F) → Goes v k requests before after l → Turns v l (asked p.payments request) (said answer) m → Goes v k (requests ++ request ∷ []) before (after ++ answer ∷ []) m
-  goes_further k l m requests request before after answer goes turns =
+  pub goes_further : (k l m : Contract B P b p) (requests : List (CodeRequest P)) (request : CodeRequest P) (before after then : List (CodeAnswer F)) (answer : CodeAnswer F) → then ≡ after ++ answer ∷ [] → Goes v k requests before after l → Turns v l (asked p.payments request) (said answer) m → Goes v k (requests ++ request ∷ []) before then m
+  goes_further k l m requests request before after then answer pushed goes turns =
       let same : basis_of l ≡ basis_of k = ap (λ x. b.meaning x.now) goes.same_basis in
       record {
         same_basis = turns.same_basis ∙ goes.same_basis;
         answers = goes.answers ++ answer ∷ [];
-        behind = ap (λ xs. xs ++ answer ∷ []) goes.behind ∙ append_assoc before goes.answers (answer ∷ []);
+        behind = pushed ∙ ap (λ xs. xs ++ answer ∷ []) goes.behind ∙ append_assoc before goes.answers (answer ∷ []);
         runs = λ books.
             let so_far = goes.runs books in
             let one = turns.turn so_far.0 in
