@@ -1,11 +1,11 @@
 use Rattle.std.proofs.Common.{◌≡◌, ◌==◌, ◌<◌, ◌≤◌, ◌+◌, ◌-◌, ◌*◌, ◌∷◌, [], ◌++◌, true, false, Err, Some, take, set, length, nat_lt, nat_le, refl, ap, sym, ◌∙◌, rules, arith}
 use Rattle.std.proofs.lemmas.Bool.{lt-ltb, le-leb, lt-leb, eq-eqb, ne_eqb}
-use Rattle.std.proofs.lemmas.List.{length-take-le, get_or-set_other}
+use Rattle.std.proofs.lemmas.List.{length-take-le}
 use Rattle.std.specs.Str.Parse.{digits_value}
 use Rattle.units.specs.Ranges.{million}
 use Rattle.basis.specs.TransitionColumns.{place}
 use Rattle.sheet.proofs.Checked.{is_in, is_out, kept_number, told_at}
-use Rattle.sheet.proofs.Held.{put_held, more_held, places_fit}
+use Rattle.sheet.proofs.Held.{put_held, put_noughts, more_held, places_fit}
 use Rattle.sheet.proofs.Joins.{place_in_year}
 use Rattle.sheet.proofs.Pairs.{after_shares}
 use Rattle.sheet.specs.Checks.{padded}
@@ -129,14 +129,14 @@ returns-then-place-self c =
 pub invariant_of-self-clause-places : goal.invariant_of-self-clause-places
 invariant_of-self-clause-places c =
     let r = c.args.self.now in
-    let inside = place_in_year r.states c.in_ok-i-2.i c.in_ok-j-2.j c.in_ok-t-2.t r.come (grind arith) (grind arith) (grind arith) in
-    grind arith
+    let some : 2 ≤ r.states = r.least_states (omega (arith, c.if-self-eq0.false)) in
+    let inside = place_in_year r.states c.in_ok-i-2.i c.in_ok-j-2.j c.in_ok-t-2.t r.come (omega (arith, c.if-t-self.false)) (omega (arith, some, c.in_ok-i-2.ensures.2)) (omega (arith, some, c.in_ok-j-2.ensures.2)) in
+    omega arith
 
 pub invariant_of-self-clause-noughts : goal.invariant_of-self-clause-noughts
-invariant_of-self-clause-noughts c = λ k above.
+invariant_of-self-clause-noughts c =
     let r = c.args.self.now in
-    let next : r.next ≤ place r.states c.in_ok-i-2.i c.in_ok-j-2.j c.in_ok-t-2.t = omega (arith, c.if-place-self.false) in
-    get_or-set_other r.shares (place r.states c.in_ok-i-2.i c.in_ok-j-2.j c.in_ok-t-2.t) k c.in_ok-p-2.p 0 (λ e. omega arith) ∙ r.noughts k (omega arith)
+    put_noughts r.shares r.next _ _ c.if-place-self.false r.noughts
 
 pub returns : goal.returns
 returns c =
