@@ -1,4 +1,4 @@
-use Rattle.std.proofs.Common.{◌≡◌, ◌*◌, Err, take, refl, ap, ◌∙◌, rules, arith}
+use Rattle.std.proofs.Common.{◌≡◌, ◌*◌, Err, take, refl, ap, ◌∙◌, rules}
 use Rattle.basis.specs.TransitionTables.{Holds}
 use Rattle.sheet.proofs.FromSheets.{fits, taken}
 use Rattle.sheet.proofs.table.read_into.Goals as goal

@@ -1,4 +1,4 @@
-use Rattle.std.proofs.Common.{◌≡◌, suc, ◌∷◌, [], length, ap, ◌∙◌, arith}
+use Rattle.std.proofs.Common.{◌≡◌, suc, ◌∷◌, length, ap, ◌∙◌, arith}
 use Rattle.sheet.proofs.Places.{some_parts}
 use Rattle.sheet.specs.Fields.{bytes_of, parts_left}
 use Rattle.sheet.specs.Lines.{parts}
