@@ -4,6 +4,7 @@ use Rattle.std.specs.Str.Parse.{digits_value}
 use Rattle.sheet.proofs.Checked.{is_in, is_out, kept_number, told_at}
 use Rattle.sheet.proofs.Held.{none_held}
 use Rattle.sheet.specs.Fields.{bytes_of}
+use Rattle.sheet.specs.Numerals.{is_number}
 use Rattle.sheet.proofs.reader.Reader.take_basis.Goals as goal
 use Rattle.sheet.proofs.reader.Reader.take_basis.Goals.{then-n-columns-via-then-n-columns, then-n-columns-via-else-n-columns+then-n-m}
 
@@ -14,9 +15,10 @@ returns-then-self-ne0 c =
 
 pub returns-in_err-m : goal.returns-in_err-m
 returns-in_err-m c =
+    let none : is_number (bytes_of c.args.states) ≡ false = search rules in
     let first : (c.args.self.now.years == 0) ≡ true = eq-eqb _ _ c.if-self-ne0.false in
     let told : c.from_residual.result ≡ Err c.in_err-m.field-0.0 = search rules in
-    rw (told, first, c.in_err-m.ensures.rule) (told_at 4 c.args.states _ _ c.requires.0 c.in_err-m.ensures.value.1)
+    rw (told, first, none) (told_at 4 c.args.states _ _ c.requires.0 c.in_err-m.ensures.value.1)
 
 pub returns-in_err-n : goal.returns-in_err-n
 returns-in_err-n c =
