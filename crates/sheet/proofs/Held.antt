@@ -2,7 +2,7 @@
 use Rattle.std.proofs.Common.{◌≡◌, ℕ, zero, suc, ◌+◌, ◌-◌, ◌*◌, ◌<◌, ◌≤◌, ◌==◌, false, true, Bool, List, [], ◌∷◌, ◌++◌, length, get_or, take, drop, set, sum, sum_by, inl, inr, mul-le-mul, refl, sym, ap, ◌∙◌, arith}
 use Rattle.std.proofs.lemmas.Bool.{cases_lt}
 use Rattle.std.proofs.lemmas.Bool.Decides.{nat_tests}
-use Rattle.std.proofs.lemmas.List.{get_or-take, get_or_past, length-take, length-take-le, take_more_set, ext_get_or}
+use Rattle.std.proofs.lemmas.List.{get_or-take, get_or_past, length-take, length-take-le, take_more_set, get_or-set_other, ext_get_or}
 use Rattle.std.specs.List.{range_with_len, list_all}
 use Rattle.units.proofs.Sums.{sum_by_places, sum_by_counting_same}
 use Rattle.units.specs.Ranges.{million}
@@ -36,6 +36,13 @@ one_fails p a (suc n) i low high h =
       | inl l ↦ let more = one_fails p (a + 1) n i (omega arith) (omega arith) h in grind (arith, nat_tests)
       | inr l ↦ let e : i ≡ a = omega arith in let here : p a ≡ false = rw e at h in grind (arith, nat_tests)
     ]
+
+-- nothing is held before the first line
+pub none_held : (r : Reader) → r.years ≡ 0 → (r.come ≡ 0) × (r.next ≡ 0)
+none_held r first =
+    let none : r.come ≡ 0 = omega (arith, r.years_come) in
+    let places = rw none at r.places in
+    (none, omega arith)
 
 -- the rows of the last year
 pub places_fit : (m n : ℕ) → m ≤ 8 → n ≤ 120 → n * m * m ≤ 7680
@@ -73,6 +80,11 @@ take_padded xs next to low high noughts =
 pub put_held : (xs : List ℕ) (next place p : ℕ) → next ≤ place → place < length xs → ((k : ℕ) → next ≤ k → get_or xs k 0 ≡ 0) → take (place + 1) (set xs place p) ≡ padded (take next xs) place ++ p ∷ []
 put_held xs next place p low high noughts =
     take_more_set xs place p high ∙ ap (λ ys. ys ++ p ∷ []) (take_padded xs next place low (omega arith) noughts)
+
+-- and noughts stand after it
+pub put_noughts : (xs : List ℕ) (next place p : ℕ) → next ≤ place → ((k : ℕ) → next ≤ k → get_or xs k 0 ≡ 0) → (k : ℕ) → place + 1 ≤ k → get_or (set xs place p) k 0 ≡ 0
+put_noughts xs next place p low noughts k above =
+    get_or-set_other xs place k p 0 (λ e. omega arith) ∙ noughts k (omega arith)
 
 -- what is held with one share more, by equal numbers
 abbrev pub with_shares : Reader → List ℕ → Sheet
