@@ -1,10 +1,10 @@
 // Steps back by a year of figures that leave room, so that nothing saturates.
-ghost use Rattle.std.specs.Prelude.{◌≡◌, ℕ, ◌≤◌, ◌↔◌, get_or, pos, IsTrue};
+ghost use Rattle.std.specs.Prelude.{◌≡◌, ◌≤◌, ◌↔◌, pos, IsTrue};
 ghost use Rattle.std.proofs.Props.{props};
 ghost use Rattle.units.specs.Near.{Within};
 ghost use Rattle.units.specs.Ranges.{million, limit};
 ghost use Rattle.valuation.specs.Means.{mean};
-ghost use Rattle.valuation.specs.Room.{IsRoomy, nought_is_roomy};
+ghost use Rattle.valuation.specs.Room.{IsRoomy, nought_is_roomy, AllRoomy};
 
 use crate::rounding::round_near_discount;
 
@@ -42,7 +42,7 @@ impl Roomy for i64 {
 
 // Whether all figures leave room. A loop of its own, so that no test breaks off a sum.
 pub(crate) fn all_roomy<F: Roomy>(after: &[F]) -> bool
-    ensures { IsTrue result → (j : ℕ) → F.leaves_room (get_or after.now j F.nothing) }
+    ensures { IsTrue result ↔ AllRoomy F.leaves_room F.nothing after.now }
 {
     for figure in after {
         if !figure.is_roomy() {

@@ -1,6 +1,7 @@
-// A year in which nothing has to saturate: what has to be tested of the figures of the year after is
-// tested once, and their type tells it.
-ghost use Rattle.std.specs.Prelude.{◌≡◌, ℕ, ◌<◌, get_or, length, IfSome};
+// A year in which nothing has to saturate: what has to be tested of the figures of the year after
+// is tested once, and their type tells it.
+ghost use Rattle.std.specs.Prelude.{◌≡◌, ◌<◌, length, IfSome};
+ghost use Rattle.valuation.specs.Room.{AllRoomy};
 
 use crate::within::{Roomy, all_roomy};
 use basis::Basis;
@@ -17,7 +18,7 @@ pub(crate) struct ExactYear<'a, F: Roomy, B: Basis, P: Plan> {
     pub(crate) after: &'a [F],
     ghost early: { year < (B.meaning basis.now).years },
     ghost fits: { length after.now ≡ (B.meaning basis.now).states },
-    ghost roomy: { (j : ℕ) → F.leaves_room (get_or after.now j F.nothing) } by { Prim.hlevel F.is_fact },
+    ghost roomy: { AllRoomy F.leaves_room F.nothing after.now } by { Prim.hlevel F.is_fact },
 }
 
 impl<'a, F: Roomy, B: Basis, P: Plan> ExactYear<'a, F, B, P> {

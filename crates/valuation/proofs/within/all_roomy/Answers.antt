@@ -12,8 +12,11 @@ loop-figure-preserved g c =
     one_holds_more g.F.Roomy.leaves_room here (λ j. get_or figures j g.F.Roomy.nothing) c.loop-figure.invariant (subst g.F.Roomy.leaves_room read (c.if-not-is_roomy.ensures.0 refl))
 
 pub returns : goal.returns
-returns g c is j =
-    ⊎_elim
-    (λ outside. rw (get_or_past c.args.after.now j g.F.Roomy.nothing (omega (arith, outside, c.loop-figure-test.false))) g.F.Roomy.nothing_leaves_room)
-    (λ inside. c.loop-figure.invariant j (omega (arith, inside)))
-    (leb_tells c.loop-figure.figure-index j)
+returns g c = (
+  (λ is j.
+      ⊎_elim
+      (λ outside. rw (get_or_past c.args.after.now j g.F.Roomy.nothing (omega (arith, outside, c.loop-figure-test.false))) g.F.Roomy.nothing_leaves_room)
+      (λ inside. c.loop-figure.invariant j (omega (arith, inside)))
+      (leb_tells c.loop-figure.figure-index j)),
+  (λ all. refl),
+)
