@@ -1,4 +1,6 @@
 // Figures at the edges of the rules.
+use plan::annuity::Annuity;
+use plan::endowment::Endowment;
 use std::alloc::Global;
 use std::process::Abort;
 use std::test::Fail;
@@ -264,5 +266,17 @@ fn texts_stay_as_they_are_under_a_width_and_a_sign(rt: HostRuntime) -> Result<()
 fn amounts_equal_their_clones(rt: HostRuntime) -> Result<(), Fail> {
     let amount = Amount::try_from(10_000_000_000)?;
     assert_eq!(rt; amount.clone()?, amount);
+    Ok(())
+}
+
+#[test]
+fn a_premium_and_the_amounts_of_plans_read_as_numbers(rt: HostRuntime) -> Result<(), Fail> {
+    let premium = Premium::try_from(700)?;
+    let endowment = Endowment::new(800, 3, 2)?;
+    let annuity = Annuity::new(900, 1, 0, 3, 2)?;
+    let told = format!(in rt.alloc(); "{premium:?} {premium:#?} {endowment:?} {annuity:?}")?;
+    let words =
+        "Premium { ticks: 700 } Premium {\n    ticks: 700,\n} Endowment { sum: 800, term: 3, paying_years: 2 } Annuity { amount: 900, state: 1, first: 0, end: 3, paying_years: 2 }";
+    assert!(rt; told.as_str() == words);
     Ok(())
 }

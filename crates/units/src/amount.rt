@@ -7,7 +7,7 @@ use std::alloc::AllocError;
 use std::error::Error;
 use std::fmt;
 
-#[derive(Copy, PartialEq, Eq, Debug)]
+#[derive(Copy, PartialEq, Eq)]
 pub struct Amount {
     ticks: u64,
     ghost range: { ticks ≤ limit },
@@ -21,6 +21,15 @@ impl Clone for Amount {
 
     fn clone(&self) -> Result<Amount, AllocError> {
         Ok(*self)
+    }
+}
+
+// By hand: an amount that is looked at by itself is a premium, and a plan shows the number alone.
+impl fmt::Debug for Amount {
+    fn fmt<W: fmt::Write>(&self, f: &mut fmt::Formatter<W>) -> fmt::Result {
+        f.debug_struct("Premium")
+            .field("ticks", &self.ticks)
+            .finish()
     }
 }
 
@@ -58,10 +67,12 @@ impl TryFrom<i64> for Amount {
     ghost try_from_gives = { λ ticks result. MatchResult result (λ a. pos a.ticks ≡ ticks) (λ e. (e.0 ≡ ticks) × (WithinLimit ticks → ⊥)) };
 
     fn try_from(ticks: i64) -> Result<Amount, OutsideLimit> {
-        match u64::try_from(ticks) {
-            Ok(ticks) if ticks <= LIMIT => Ok(Amount { ticks }),
-            _ => Err(OutsideLimit(ticks)),
+        if ticks < 0 || ticks > LIMIT as i64 {
+            return Err(OutsideLimit(ticks));
         }
+        Ok(Amount {
+            ticks: ticks as u64,
+        })
     }
 }
 
