@@ -7,6 +7,7 @@ ghost use Rattle.plan.specs.Readings.{MayReadEach, GivesBack};
 use super::PaymentTable;
 use super::check::Columns;
 use std::alloc::{AllocError, Global};
+use std::mem;
 use units::amount::Amount;
 use units::fault::Fault;
 use units::{MOST_STATES, MOST_YEARS};
@@ -20,18 +21,23 @@ fn refill<T: Copy, F: Fn(i64) -> T>(kept: &mut Vec<T>, column: &[i64], read: F)
     ensures items { (value : T → ℤ) → GivesBack value (F.post read) column.now → map value kept.new.items ≡ column.now }
     ensures capacity { vec_capacity kept.new ≡ vec_capacity kept.old }
 {
-    kept.clear();
+    // By value while it is filled: behind the reference its length would be written at each entry.
+    let heap = *kept.allocator();
+    let mut filled = mem::replace(kept, Vec::new(heap));
+    filled.clear();
     for entry in column {
-        kept.push_reserved(read(*entry));
+        filled.push_reserved(read(*entry));
     }
+    *kept = filled;
 }
 
-// The amount of an entry that was checked.
+// The amount of an entry that was checked. Any other would be nought: then no test ends a fill, and
+// it becomes vector code.
 fn amount(entry: i64) -> Amount
     requires { WithinLimit entry }
     ensures { pos result.ticks ≡ entry }
 {
-    Amount::new(entry).unwrap()
+    Amount::new(entry).unwrap_or(Amount::zero())
 }
 
 impl PaymentTable {
