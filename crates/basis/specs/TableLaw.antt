@@ -15,7 +15,7 @@ use Rattle.basis.specs.TransitionTables.{transition_table}
 use Rattle.basis.specs.declared.table.TransitionTable.{TransitionTable}
 
 -- everybody goes somewhere in a row of shares that are numbers
-whole_row : (xs : List ℕ) (m r : ℕ) → r * m + m ≤ length xs → LawfulRow (row m (map pos xs) r) → sum_by (λ j. get_or xs (r * m + j) 0) (range_with_len 0 m) ≡ million
+pub whole_row : (xs : List ℕ) (m r : ℕ) → r * m + m ≤ length xs → LawfulRow (row m (map pos xs) r) → sum_by (λ j. get_or xs (r * m + j) 0) (range_with_len 0 m) ≡ million
 whole_row xs m r inside lawful =
     let entries : row m (map pos xs) r ≡ map pos (take m (drop (r * m) xs)) = ap (take m) (drop-map pos (r * m) xs) ∙ take-map pos m (drop (r * m) xs) in
     let total : pos (sum_by (λ x. x) (take m (drop (r * m) xs))) ≡ pos million = sym (int_sum_by_pos (take m (drop (r * m) xs))) ∙ ap (int_sum_by (λ z. z)) (sym entries) ∙ lawful.whole in

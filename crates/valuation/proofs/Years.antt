@@ -1,11 +1,18 @@
 -- The figures of one year from those of the next. Assumes nothing.
-use Rattle.std.proofs.Common.{◌≡◌, ℕ, suc, ◌+◌, ◌-◌, ◌<◌, List, map, get_or, pos, sym, ap, ◌∙◌, arith}
+use Rattle.std.proofs.Common.{◌≡◌, ℕ, suc, ◌+◌, ◌-◌, ◌<◌, ◌≤◌, List, map, get_or, pos, sym, ap, ◌∙◌, arith}
 use Rattle.std.proofs.lemmas.List.FromFn.{get_or-map-range_with_len}
 use Rattle.units.proofs.Places.{map_counting_same}
 use Rattle.basis.specs.Transitions.{Transitions, moves}
 use Rattle.plan.specs.Payments.{Payments}
 use Rattle.valuation.specs.Figures.{flow, joined, joined_from, figure_before, figure_from, figures_from, figure_with, figure, figures_of}
 use Rattle.valuation.specs.Operations.{Operations}
+
+-- with no year left, a figure is that of the flow alone
+pub figure_late : {F : Type 0} (v : Operations F) (c : Transitions) (p : Payments) (premium i t : ℕ) → c.years ≤ t → v.make (flow c p premium i t) ≡ figure v c p premium i t
+figure_late v c p premium i t late = let none : c.years - t ≡ 0 = omega arith in sym (ap (λ k. figure_with v c p premium k i t) none)
+
+pub figures_late : {F : Type 0} (v : Operations F) (c : Transitions) (p : Payments) (premium t : ℕ) (new : List F) → c.years ≤ t → new ≡ map (λ i. v.make (flow c p premium i t)) (moves c) → new ≡ figures_of v c p premium t
+figures_late v c p premium t new late made = let none : c.years - t ≡ 0 = omega arith in made ∙ sym (ap (λ k. map (λ i. figure_with v c p premium k i t) (moves c)) none)
 
 pub figure_earlier : {F : Type 0} (v : Operations F) (c : Transitions) (p : Payments) (premium i t : ℕ) → t < c.years → figure v c p premium i t ≡ figure_before v c p premium i t (λ j. figure v c p premium j (t + 1))
 figure_earlier v c p premium i t early = let left : c.years - t ≡ suc (c.years - (t + 1)) = omega arith in ap (λ k. figure_with v c p premium k i t) left
